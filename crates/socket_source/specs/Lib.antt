@@ -5,3 +5,6 @@ pub mod Sockets
 pub mod Standings
 pub mod Waiting
 pub mod Opens
+pub mod Turns
+pub mod Framings
+pub mod Lines

@@ -37,6 +37,13 @@ reading_as (Err Exhausted) = reading.Ended end.Reset
 reading_as (Err Lost) = reading.Ended end.Reset
 reading_as (Err Broken) = reading.Ended end.Reset
 
+-- what it says of a connection that was silent for too long
+abbrev pub ended_if_dry : Reading → Reading
+ended_if_dry reading.Dry = reading.Ended end.Idle
+ended_if_dry (reading.Piece len) = reading.Piece len
+ended_if_dry (reading.Ended e) = reading.Ended e
+ended_if_dry reading.Again = reading.Again
+
 -- when a listener's socket is tried again
 abbrev pub retry_after : Refusal → Retry
 retry_after Dry = retry.Reported

@@ -2,39 +2,34 @@
 ghost use Rattle.std.specs.Prelude.{◌≡◌, ◌≤◌, ◌<◌, length, true, false, IfSome, IfNone, IfOk, ℕ};
 ghost use Rattle.socket_source.specs.Steps.{with_open, without_open};
 ghost use Rattle.socket_source.specs.Sockets.{open_in, IsOpenedAs, ReadsWithin};
+ghost use Rattle.socket_source.specs.Turns.{ReadsFront};
+ghost use Rattle.socket_source.specs.Framings.{framing_in};
 
-use crate::limits::CONNECTIONS_MAX;
-use crate::refusal::{Reading, reading_of, refusal_of};
+use crate::connection::Connection;
+use crate::limits::{CONNECTIONS_MAX, TURN_OCTETS};
+use crate::refusal::{Reading, ended_if_dry};
 use crate::system::first_kept_descriptor;
 use mio::net::TcpStream;
 use mio::{Interest, Registry, Token};
 use slab::Slab;
 use std::alloc::{AllocError, Global};
-use std::io::Read;
 use std::os::fd::{AsRawFd, RawFd};
 use std::time::{Duration, Instant};
+use syslog_frame::Framing;
 
 /// Connections under numbers below a limit. A number is found in constant time, and given again
 /// only once its connection was closed. Room for all is allocated at the beginning.
 #[derive(Drop)]
 pub(crate) struct Connections {
-    pub(crate) streams: Slab<TcpStream>,
+    pub(crate) streams: Slab<Connection>,
     // when each last gave octets
     heard: Vec<Instant>,
+    // room for the octets of a turn, which are read once to see them and once to take them
+    spent: Vec<u8>,
     pub(crate) limit: usize,
     // the first descriptor that none is to have
     kept: RawFd,
     ghost few: { limit ≤ 16384 },
-}
-
-// Reads a connection once.
-fn read_stream(mut stream: &TcpStream, buf: &mut [u8]) -> Reading
-    ensures { ReadsWithin (length buf.new) result }
-{
-    match stream.read(buf) {
-        Ok(len) => reading_of(Ok(len)),
-        Err(error) => reading_of(Err(refusal_of(&error))),
-    }
 }
 
 impl Connections {
@@ -48,6 +43,7 @@ impl Connections {
         Ok(Connections {
             streams: Slab::with_capacity(alloc, limit)?,
             heard: vec![in alloc; now; limit]?,
+            spent: vec![in alloc; 0u8; TURN_OCTETS]?,
             limit,
             kept: first_kept_descriptor(),
         })
@@ -71,9 +67,11 @@ impl Connections {
         registry: &Registry,
         first: usize,
         mut stream: TcpStream,
+        framing: Framing,
         now: Instant,
     ) -> Option<u32>
         ensures kept { IfSome result (λ conn. IsOpenedAs self.old.streams self.new.streams self.old.limit conn) }
+        ensures framing { IfSome result (λ conn. framing_in self.new.streams conn ≡ Some framing) }
         ensures none { IfNone result ((n : ℕ) → open_in self.new.streams n ≡ open_in self.old.streams n) }
         ensures limit { self.new.limit ≡ self.old.limit }
     {
@@ -82,7 +80,7 @@ impl Connections {
         registry
             .register(&mut stream, token, Interest::READABLE)
             .ok()?;
-        let key = self.streams.insert(stream).ok()?;
+        let key = self.streams.insert(Connection { stream, framing }).ok()?;
         self.note_heard(key, now);
         Some(key as u32)
     }
@@ -94,21 +92,33 @@ impl Connections {
         self.streams.contains(conn as usize)
     }
 
-    /// Reads a connection once.
-    pub(crate) fn read(&mut self, conn: u32, now: Instant, buf: &mut [u8]) -> Reading
+    /// Reads what one turn of a connection gives. One that is silent, and has nothing to read, has
+    /// ended.
+    pub(crate) fn read(
+        &mut self,
+        conn: u32,
+        is_silent: bool,
+        now: Instant,
+        buf: &mut [u8],
+    ) -> Reading
         ensures within { ReadsWithin (length buf.new) result }
+        ensures bounded { IfSome (framing_in self.new.streams conn) (λ framing. ReadsFront framing buf.new result) }
         ensures same { self.new.streams ≡ self.old.streams }
         ensures limit { self.new.limit ≡ self.old.limit }
     {
         let key = conn as usize;
-        let Some(stream) = self.streams.get(key) else {
+        let Some(connection) = self.streams.get(key) else {
             return Reading::Dry;
         };
-        let reading = read_stream(stream, buf);
+        let reading = connection.read(buf, &mut self.spent);
         if matches!(reading, Reading::Piece(_)) {
             self.note_heard(key, now);
         }
-        reading
+        if is_silent {
+            ended_if_dry(reading)
+        } else {
+            reading
+        }
     }
 
     /// Closes a connection, if one is open under the number.

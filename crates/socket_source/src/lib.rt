@@ -7,13 +7,16 @@
 #![tactic(auto)]
 
 mod bound;
+mod connection;
 mod connections;
 mod counts;
+mod front;
 mod input;
 mod limits;
 mod listener;
 mod memory_source;
 mod open_fault;
+mod open_sockets;
 mod opening;
 mod options;
 mod ready;
@@ -27,7 +30,9 @@ mod system;
 mod tests;
 mod unix_path;
 
-pub use limits::{CONNECTIONS_MAX, PIECE_MAX};
+pub use limits::{
+    ACCEPTS_A_TURN, CONNECTIONS_MAX, DATAGRAMS_A_TURN, PIECE_MAX, TURN_FRAMES, TURN_OCTETS,
+};
 pub use listener::{Inherited, Listener};
 pub use memory_source::MemorySource;
 pub use open_fault::OpenFault;

@@ -8,3 +8,15 @@ pub const PIECE_MAX: usize = FRAME_MAX + 1;
 
 /// The most connections that may be open at once.
 pub const CONNECTIONS_MAX: usize = 16_384;
+
+/// The most octets of a connection that one turn gives.
+pub const TURN_OCTETS: usize = 65_536;
+
+/// The most frames that begin in what one turn of a connection gives.
+pub const TURN_FRAMES: usize = 1_024;
+
+/// The most datagrams of a socket in one turn.
+pub const DATAGRAMS_A_TURN: usize = 64;
+
+/// The most connections of a listener in one turn.
+pub const ACCEPTS_A_TURN: usize = 16;

@@ -1,9 +1,10 @@
 //! The sockets that may have something.
-ghost use Rattle.std.specs.Prelude.{◌≡◌, ◌++◌, [], length, IfOk, vec_len};
+ghost use Rattle.std.specs.Prelude.{◌≡◌, ◌⊎◌, ◌+◌, ◌++◌, ◌<◌, [], length, IfOk, IsSome, None, vec_len};
 ghost use Rattle.std.specs.Option.{option_to_list};
 ghost use Rattle.std.specs.VecDeque.{deque_capacity};
-ghost use Rattle.socket_source.specs.Waiting.{Queues};
+ghost use Rattle.socket_source.specs.Waiting.{KeepsOrder, Queues, Returns};
 
+use mio::Events;
 use std::alloc::{AllocError, Global};
 use std::collections::VecDeque;
 
@@ -15,32 +16,42 @@ pub(crate) fn listener_number(listener: usize) -> usize {
     listener.saturating_add(1)
 }
 
-/// Numbers of sockets, each at most once, in the order in which they were put. Room for all is
-/// allocated at the beginning.
+/// Numbers of sockets. Those that wait for a turn do so each at most once, in the order in which they
+/// were put. Room for all is allocated at the beginning.
 #[derive(Drop)]
 pub(crate) struct ReadyQueue {
     waiting: VecDeque<usize>,
     // which numbers wait
     queued: Vec<bool>,
+    // the number that goes on with its turn, and how many steps of the turn it has had
+    going: Option<usize>,
+    steps: usize,
 }
 
 impl ReadyQueue {
+    ghost use Rattle.socket_source.specs.Lines.{line_of};
+
     /// A queue in which no number waits, with room for those below `count`. It fails only when out
     /// of memory.
     pub(crate) fn new(alloc: Global, count: usize) -> Result<ReadyQueue, AllocError>
-        ensures empty { IfOk result (λ ready. ready.waiting.items ≡ []) }
+        ensures empty { IfOk result (λ ready. line_of ready ≡ []) }
         ensures room { IfOk result (λ ready. vec_len ready.queued ≡ count) }
     {
         Ok(ReadyQueue {
             waiting: VecDeque::with_capacity(alloc, count)?,
             queued: vec![in alloc; false; count]?,
+            going: None,
+            steps: 0,
         })
     }
 
     /// Puts a number behind those that wait, if it does not wait already.
     pub(crate) fn push(&mut self, number: usize)
-        ensures { Queues (deque_capacity self.old.waiting) self.old.queued.items
+        ensures queued { Queues (deque_capacity self.old.waiting) self.old.queued.items
             self.new.queued.items self.old.waiting.items self.new.waiting.items number }
+        ensures order { KeepsOrder 0 (line_of self.old) (line_of self.new) }
+        ensures going { self.new.going ≡ self.old.going }
+        ensures steps { self.new.steps ≡ self.old.steps }
     {
         if number < self.queued.len() && !self.queued[number] {
             let put = self.waiting.push_back(number);
@@ -48,9 +59,19 @@ impl ReadyQueue {
         }
     }
 
-    /// Takes the number that has waited longest.
-    pub(crate) fn pop(&mut self) -> Option<usize>
-        ensures { self.old.waiting.items ≡ option_to_list result ++ self.new.waiting.items }
+    /// Puts the numbers that the system reports behind those that wait.
+    pub(crate) fn push_reported(&mut self, events: &Events)
+        ensures { KeepsOrder 0 (line_of self.old) (line_of self.new) }
+    {
+        for event in events.iter() {
+            self.push(event.token().0);
+        }
+    }
+
+    // Takes the number that has waited longest.
+    fn pop(&mut self) -> Option<usize>
+        ensures first { self.old.waiting.items ≡ option_to_list result ++ self.new.waiting.items }
+        ensures going { self.new.going ≡ self.old.going }
     {
         let number = self.waiting.pop_front()?;
         if let Some(queued) = self.queued.get_mut(number) {
@@ -59,10 +80,40 @@ impl ReadyQueue {
         Some(number)
     }
 
-    /// How many numbers wait.
-    pub(crate) fn len(&self) -> usize
-        ensures { result ≡ length self.now.waiting.items }
+    /// Takes the number that has its turn: the one that goes on, or else the one that has waited
+    /// longest.
+    pub(crate) fn next(&mut self) -> Option<usize>
+        ensures first { line_of self.old ≡ option_to_list result ++ line_of self.new }
+        ensures over { self.new.going ≡ None }
     {
-        self.waiting.len()
+        if let Some(number) = self.going {
+            self.going = None;
+            return Some(number);
+        }
+        self.steps = 0;
+        self.pop()
+    }
+
+    /// A number has had a step, and has something left. It goes on while its turn may have more
+    /// steps, and then waits behind the others.
+    pub(crate) fn stay(&mut self, number: usize, most: usize)
+        ensures stays { Returns number (line_of self.old) (line_of self.new) }
+        ensures few { IsSome self.new.going → self.new.going ≡ self.old.going ⊎ self.new.steps < most }
+        ensures counted { self.new.steps ≡ self.old.steps ⊎ self.new.steps ≡ self.old.steps + 1 }
+    {
+        let steps = self.steps.saturating_add(1);
+        if steps < most && self.going.is_none() {
+            self.steps = steps;
+            self.going = Some(number);
+        } else {
+            self.push(number);
+        }
+    }
+
+    /// How many numbers wait or go on.
+    pub(crate) fn len(&self) -> usize
+        ensures { result ≡ length (line_of self.now) }
+    {
+        self.waiting.len() + usize::from(self.going.is_some())
     }
 }

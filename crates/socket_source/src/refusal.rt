@@ -1,7 +1,7 @@
 //! What the answers of a socket's calls mean. Nothing here calls the system.
 ghost use Rattle.std.specs.Prelude.{◌≡◌};
 ghost use Rattle.std.specs.IoError.{raw_os_error};
-ghost use Rattle.socket_source.specs.Refusals.{reading_as, refusal_at, retry_after};
+ghost use Rattle.socket_source.specs.Refusals.{ended_if_dry, reading_as, refusal_at, retry_after};
 
 use crate::step::ConnectionEnd;
 use libc::{EAGAIN, ECONNABORTED, ECONNREFUSED, EINTR, EMFILE, ENOMEM};
@@ -87,6 +87,16 @@ pub(crate) fn reading_of(answer: Result<usize, Refusal>) -> Reading
         Err(Refusal::Exhausted | Refusal::Lost | Refusal::Broken) => {
             Reading::Ended(ConnectionEnd::Reset)
         }
+    }
+}
+
+/// What a read of a connection tells that has been silent for too long: it ends if nothing is there.
+pub(crate) fn ended_if_dry(reading: Reading) -> Reading
+    ensures { result ≡ ended_if_dry reading }
+{
+    match reading {
+        Reading::Dry => Reading::Ended(ConnectionEnd::Idle),
+        other => other,
     }
 }
 

@@ -56,14 +56,15 @@ impl<'a, R: Net + Files + Clock> SocketSource<'a, R> {
         ensures { (⟦<SocketSource<'a, R> as ServerSource>⟧.state self.now).standing.listeners ≤ listener
             → result ≡ None }
     {
-        self.sockets.listeners.get(listener)?.local_addr()
+        self.sockets.open.listeners.get(listener)?.local_addr()
     }
 }
 
 impl<'a, R: Clock> ServerSource for SocketSource<'a, R> {
     ghost use Rattle.std.specs.Prelude.{None};
-    ghost use Rattle.socket_source.specs.Steps.{counts_of};
-    ghost use Rattle.socket_source.specs.Standings.{standing};
+    ghost use Rattle.socket_source.specs.Steps.{GaveStep, counts_of};
+    ghost use Rattle.socket_source.specs.Turns.{IsBounded};
+    ghost use Rattle.socket_source.specs.Standings.{framings, standing};
 
     ghost state = { λ s. record {
       standing = standing s.sockets;
@@ -71,7 +72,12 @@ impl<'a, R: Clock> ServerSource for SocketSource<'a, R> {
       coming = None;
     } };
 
-    fn next(&mut self, buf: &mut [u8]) -> ServerStep {
+    fn next(&mut self, buf: &mut [u8]) -> ServerStep
+        ensures gave { GaveStep (⟦<SocketSource<'a, R> as ServerSource>⟧.state self.old)
+            (⟦<SocketSource<'a, R> as ServerSource>⟧.state self.new) result buf.new }
+        // A turn gives a part of what a connection has.
+        ensures bounded { IsBounded (framings self.new.sockets) buf.new result }
+    {
         let step = self.sockets.next_step(buf);
         self.counts.count(step);
         step

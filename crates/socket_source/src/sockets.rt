@@ -1,32 +1,33 @@
 //! The sockets of the system, in one loop without threads.
-ghost use Rattle.std.specs.Prelude.{◌≡◌, ◌<◌, true, length, max, min, vec_len, IfErr, IfOk, IfSome};
+ghost use Rattle.std.specs.Prelude.{◌≡◌, true, length, max, min, IfErr, IfOk, IfSome};
 ghost use Rattle.socket_source.specs.Opens.{IsFaultOf};
-ghost use Rattle.socket_source.specs.Sockets.{IsAt, IsOf};
 ghost use Rattle.socket_source.specs.Steps.{Becomes, IfLawful, IsLawful, IsVacant, without_open};
+ghost use Rattle.socket_source.specs.Turns.{IsBounded};
+ghost use Rattle.socket_source.specs.Waiting.{KeepsOrder, MovesUp, Returns};
 
-use crate::bound::{Bound, accept_from, receive};
 use crate::connections::Connections;
 use crate::input::{InputTurn, read_input, watch_input};
 use crate::limits::CONNECTIONS_MAX;
 use crate::listener::Listener;
 use crate::open_fault::OpenFault;
+use crate::open_sockets::{OpenSockets, Taken};
 use crate::opening::{check_descriptors, open_listeners};
 use crate::options::SourceOptions;
 use crate::ready::{INPUT_NUMBER, ReadyQueue, listener_number};
-use crate::refusal::{Reading, Refusal, Retry, retry_of};
+use crate::refusal::Retry;
 use crate::step::{ConnectionEnd, ServerStep, SourceFault};
 use crate::system::spare_descriptor;
-use mio::net::TcpStream;
 use mio::{Events, Poll};
 use std::alloc::Global;
-use std::net::{Net, SocketAddr};
-use std::os::fd::OwnedFd;
+use std::net::Net;
 use std::rt::{Clock, Files};
 use std::time::{Duration, Instant};
-use syslog_frame::Framing;
 
 // how many sockets the system reports at most in one call
 const REPORTED_MAX: usize = 1_024;
+
+// after how many steps of sockets the system is asked again for those that are ready
+const ROUND_MAX: usize = 16;
 
 // the shortest period, in milliseconds
 const PERIOD_MIN_MILLIS: u64 = 1;
@@ -56,20 +57,17 @@ enum InputState {
     Drained,
 }
 
-/// The sockets that are listened on, and those that are open.
+/// The sockets of the system, and whose turn it is.
 #[derive(Drop)]
 pub(crate) struct Sockets<'a, R> {
     rt: &'a R,
-    poll: Poll,
+    pub(crate) open: OpenSockets,
     events: Events,
-    pub(crate) listeners: Vec<Bound>,
-    pub(crate) connections: Connections,
-    ready: ReadyQueue,
-    // how many more turns before the system is asked again
+    pub(crate) ready: ReadyQueue,
+    // how many more steps before the system is asked again
     round: usize,
     // some listener is to be tried again
     later: bool,
-    spare: Option<OwnedFd>,
     period: Duration,
     ticked: Instant,
     // a tick comes behind each step that has read octets
@@ -86,32 +84,23 @@ pub(crate) struct Sockets<'a, R> {
 }
 
 impl<'a, R: Clock> Sockets<'a, R> {
-    ghost use Rattle.socket_source.specs.Standings.{standing};
+    ghost use Rattle.socket_source.specs.Lines.{line};
+    ghost use Rattle.socket_source.specs.Standings.{framings, standing};
 
     // The number of a connection's socket among all.
     fn socket_number(&self, conn: u32) -> usize {
-        listener_number(self.listeners.len()).saturating_add(conn as usize)
-    }
-
-    // Has a listener tried again in time.
-    fn schedule(&mut self, number: usize, retry: Retry)
-        ensures standing { standing self.new ≡ standing self.old }
-        ensures later { retry ≡ Retry.Later → self.new.later ≡ true }
-    {
-        match retry {
-            Retry::Reported => {}
-            Retry::Now => self.ready.push(number),
-            Retry::Later => self.later = true,
-        }
+        listener_number(self.open.listeners.len()).saturating_add(conn as usize)
     }
 
     // Has every listener tried again, if one waits for it.
     fn retry_listeners(&mut self)
-        ensures { standing self.new ≡ standing self.old }
+        ensures standing { standing self.new ≡ standing self.old }
+        ensures stays { self.new.open ≡ self.old.open }
+        ensures order { KeepsOrder 0 (line self.old) (line self.new) }
     {
         if self.later {
             self.later = false;
-            for listener in 0..self.listeners.len() {
+            for listener in 0..self.open.listeners.len() {
                 self.ready.push(listener_number(listener));
             }
         }
@@ -119,7 +108,8 @@ impl<'a, R: Clock> Sockets<'a, R> {
 
     // A period is over. A tick behind a read may stand for its own.
     fn tick(&mut self, now: Instant) -> Option<ServerStep>
-        ensures { IfLawful (standing self.old) (standing self.new) 0 result }
+        ensures lawful { IfLawful (standing self.old) (standing self.new) 0 result }
+        ensures order { KeepsOrder 0 (line self.old) (line self.new) }
     {
         self.ticked = now;
         self.retry_listeners();
@@ -133,7 +123,8 @@ impl<'a, R: Clock> Sockets<'a, R> {
     // The tick behind a read. It stands for that of a period to come: so as many ticks come as
     // periods pass, unless there are more reads than that.
     fn tick_at_once(&mut self) -> ServerStep
-        ensures { IsLawful (standing self.old) (standing self.new) 0 result }
+        ensures lawful { IsLawful (standing self.old) (standing self.new) 0 result }
+        ensures order { KeepsOrder 0 (line self.old) (line self.new) }
     {
         self.early = self.early.saturating_add(1).min(EARLY_MAX);
         ServerStep::Tick
@@ -141,56 +132,89 @@ impl<'a, R: Clock> Sockets<'a, R> {
 
     /// Closes a connection, and so has room for another.
     pub(crate) fn release(&mut self, conn: u32)
-        ensures { Becomes (standing self.old) (standing self.new)
+        ensures becomes { Becomes (standing self.old) (standing self.new)
             (without_open conn (standing self.old).live) }
+        ensures order { KeepsOrder 0 (line self.old) (line self.new) }
     {
-        self.connections.close(conn);
+        self.open.close(conn);
         self.retry_listeners();
+    }
+
+    // Has the listeners tried again if a step has made room for a connection.
+    fn use_room(&mut self, step: Option<ServerStep>)
+        ensures standing { standing self.new ≡ standing self.old }
+        ensures stays { self.new.open ≡ self.old.open }
+        ensures order { KeepsOrder 0 (line self.old) (line self.new) }
+    {
+        if let Some(ServerStep::Ended { .. }) = step {
+            self.retry_listeners();
+        }
+    }
+
+    // A socket has had a step, and is tried again in time.
+    fn settle(&mut self, number: usize, most: usize, retry: Retry)
+        ensures standing { standing self.new ≡ standing self.old }
+        ensures stays { self.new.open ≡ self.old.open }
+        ensures returns { Returns number (line self.old) (line self.new) }
+    {
+        match retry {
+            Retry::Reported => {}
+            Retry::Now => self.ready.stay(number, most),
+            Retry::Later => self.later = true,
+        }
+    }
+
+    // A connection that has given nothing for too long. All are looked at again where it is time.
+    fn find_silent(&mut self, now: Instant) -> Option<u32>
+        ensures standing { standing self.new ≡ standing self.old }
+        ensures ready { self.new.ready ≡ self.old.ready }
+    {
+        let idle = self.idle?;
+        if now.duration_since(self.sweeping_since) >= Duration::from_secs(SWEEP_SECONDS) {
+            self.sweeping_since = now;
+            self.swept = 0;
+        }
+        let silent = self.open.connections.find_idle(self.swept, now, idle);
+        self.swept = match silent {
+            Some(conn) => conn as usize + 1,
+            None => self.open.connections.limit,
+        };
+        silent
+    }
+
+    // Ends a connection that has given nothing for too long, and has nothing to read. What waits is
+    // read first: it may have come while the process was stopped.
+    fn take_silent(&mut self, now: Instant, buf: &mut [u8]) -> Option<ServerStep>
+        ensures lawful { IfLawful (standing self.old) (standing self.new) (length buf.new) result }
+        ensures bounded { IfSome result (IsBounded (framings self.new) buf.new) }
+        ensures order { KeepsOrder 0 (line self.old) (line self.new) }
+    {
+        let conn = self.find_silent(now)?;
+        let number = self.socket_number(conn);
+        let taken = self.open.read(conn, true, now, buf);
+        if let Retry::Now = taken.retry {
+            self.ready.push(number);
+        }
+        self.use_room(taken.step);
+        taken.step
     }
 
     // An open connection ends.
     fn end(&mut self, conn: u32, end: ConnectionEnd) -> ServerStep
         requires { (standing self.old).live conn ≡ true }
         ensures lawful { IsLawful (standing self.old) (standing self.new) 0 result }
-        ensures of { IsOf conn result }
+        ensures order { KeepsOrder 0 (line self.old) (line self.new) }
     {
         self.release(conn);
         ServerStep::Ended { conn, end }
     }
 
-    // Begins to look for silent connections again, where it is time.
-    fn sweep(&mut self, now: Instant)
-        ensures { standing self.new ≡ standing self.old }
-    {
-        if now.duration_since(self.sweeping_since) >= Duration::from_secs(SWEEP_SECONDS) {
-            self.sweeping_since = now;
-            self.swept = 0;
-        }
-    }
-
-    // Ends a connection that has given nothing for too long.
-    fn end_idle(&mut self, now: Instant) -> Option<ServerStep>
-        ensures { IfLawful (standing self.old) (standing self.new) 0 result }
-    {
-        let idle = self.idle?;
-        self.sweep(now);
-        match self.connections.find_idle(self.swept, now, idle) {
-            Some(conn) => {
-                self.swept = conn as usize + 1;
-                Some(self.end(conn, ConnectionEnd::Idle))
-            }
-            None => {
-                self.swept = self.connections.limit;
-                None
-            }
-        }
-    }
-
     // Ends a connection that is still open, or finishes where none is.
     fn finish(&mut self, now: Instant) -> ServerStep
-        ensures { IsLawful (standing self.old) (standing self.new) 0 result }
+        ensures lawful { IsLawful (standing self.old) (standing self.new) 0 result }
+        ensures order { KeepsOrder 0 (line self.old) (line self.new) }
     {
-        match self.connections.find_idle(0, now, Duration::ZERO) {
+        match self.open.connections.find_idle(0, now, Duration::ZERO) {
             Some(conn) => self.end(conn, ConnectionEnd::Closed),
             None => ServerStep::Finished,
         }
@@ -211,16 +235,20 @@ impl<'a, R: Clock> Sockets<'a, R> {
     // Asks the system which sockets are ready, and puts them behind those that were. It waits where
     // none was.
     fn ask(&mut self, now: Instant) -> Option<ServerStep>
-        ensures { IfLawful (standing self.old) (standing self.new) 0 result }
+        ensures lawful { IfLawful (standing self.old) (standing self.new) 0 result }
+        ensures order { KeepsOrder 0 (line self.old) (line self.new) }
     {
         let patience = self.patience(now);
-        if self.poll.poll(&mut self.events, Some(patience)).is_err() {
+        if self
+            .open
+            .poll
+            .poll(&mut self.events, Some(patience))
+            .is_err()
+        {
             return Some(ServerStep::Failed(SourceFault::Poll));
         }
-        for event in self.events.iter() {
-            self.ready.push(event.token().0);
-        }
-        self.round = self.ready.len();
+        self.ready.push_reported(&self.events);
+        self.round = self.ready.len().min(ROUND_MAX);
         if self.round == 0 && matches!(self.input, InputState::Draining(_)) {
             self.input = InputState::Drained;
         }
@@ -228,168 +256,39 @@ impl<'a, R: Clock> Sockets<'a, R> {
     }
 
     // Looks at standard input.
-    fn take_input(&mut self, now: Instant, buf: &mut [u8]) -> Option<ServerStep>
-        ensures { IfLawful (standing self.old) (standing self.new) 0 result }
+    fn take_input(&mut self, now: Instant, buf: &mut [u8]) -> Taken
+        ensures lawful { IfLawful (standing self.old) (standing self.new) 0 result.step }
+        ensures bounded { IfSome result.step (IsBounded (framings self.new) buf.new) }
+        ensures ready { self.new.ready ≡ self.old.ready }
     {
         match read_input(buf) {
-            InputTurn::Some => {
-                self.ready.push(INPUT_NUMBER);
-                None
-            }
-            InputTurn::Dry => None,
+            InputTurn::Some => Taken::none(Retry::Now),
+            InputTurn::Dry => Taken::none(Retry::Reported),
             InputTurn::Ended => {
                 self.input = InputState::Draining(now);
-                Some(ServerStep::InputEnded)
+                Taken::some(ServerStep::InputEnded, Retry::Reported)
             }
         }
     }
 
-    // Opens a connection that was accepted, or turns it away.
-    fn admit(
-        &mut self,
-        listener: usize,
-        framing: Framing,
-        accepted: (TcpStream, SocketAddr),
-        now: Instant,
-    ) -> ServerStep
-        requires { listener < vec_len self.old.listeners }
-        ensures lawful { IsLawful (standing self.old) (standing self.new) 0 result }
-        ensures at { IsAt listener result }
-    {
-        let (stream, peer) = accepted;
-        let first = self.socket_number(0);
-        let registry = self.poll.registry();
-        match self.connections.keep(registry, first, stream, now) {
-            Some(conn) => ServerStep::Opened {
-                conn,
-                listener,
-                framing,
-                peer,
-            },
-            None => ServerStep::TurnedAway {
-                listener,
-                framing,
-                peer,
-            },
-        }
-    }
-
-    // Accepts a connection.
-    fn accept(&mut self, listener: usize, now: Instant) -> Option<ServerStep>
-        ensures lawful { IfLawful (standing self.old) (standing self.new) 0 result }
-        ensures at { IfSome result (IsAt listener) }
-    {
-        let Some(Bound::Streams { socket, framing }) = self.listeners.get(listener) else {
-            return None;
-        };
-        let framing = *framing;
-        match accept_from(socket) {
-            Ok(accepted) => {
-                self.ready.push(listener_number(listener));
-                Some(self.admit(listener, framing, accepted, now))
-            }
-            Err(Refusal::Exhausted) => self.turn_away(listener),
-            Err(refusal) => {
-                self.schedule(listener_number(listener), retry_of(refusal));
-                None
-            }
-        }
-    }
-
-    // Accepts a connection in the place of the spare descriptor, and closes it. Where even that
-    // fails, the listener is tried again later.
-    fn turn_away(&mut self, listener: usize) -> Option<ServerStep>
-        ensures lawful { IfLawful (standing self.old) (standing self.new) 0 result }
-        ensures at { IfSome result (IsAt listener) }
-    {
-        self.spare = None;
-        let Some(Bound::Streams { socket, framing }) = self.listeners.get(listener) else {
-            return None;
-        };
-        let framing = *framing;
-        let accepted = accept_from(socket);
-        let step = match accepted {
-            Ok((stream, peer)) => {
-                drop(stream);
-                self.ready.push(listener_number(listener));
-                Some(ServerStep::TurnedAway {
-                    listener,
-                    framing,
-                    peer,
-                })
-            }
-            Err(_) => {
-                self.schedule(listener_number(listener), Retry::Later);
-                None
-            }
-        };
-        self.spare = spare_descriptor();
-        step
-    }
-
-    // Receives a datagram.
-    fn receive(&mut self, listener: usize, buf: &mut [u8]) -> Option<ServerStep>
-        ensures at { IfSome result (IsAt listener) }
-        ensures lawful { IfLawful (standing self.old) (standing self.new) (length buf.new) result }
-    {
-        let Some(Bound::Datagrams { socket, addressed }) = self.listeners.get(listener) else {
-            return None;
-        };
-        match receive(socket, *addressed, buf) {
-            Ok((len, peer)) => {
-                self.ready.push(listener_number(listener));
-                Some(ServerStep::Datagram {
-                    listener,
-                    peer,
-                    len,
-                })
-            }
-            Err(refusal) => {
-                self.schedule(listener_number(listener), retry_of(refusal));
-                None
-            }
-        }
-    }
-
-    // Reads a connection, if one is open under the number.
-    fn read(&mut self, conn: u32, now: Instant, buf: &mut [u8]) -> Option<ServerStep>
-        ensures of { IfSome result (IsOf conn) }
-        ensures lawful { IfLawful (standing self.old) (standing self.new) (length buf.new) result }
-    {
-        if !self.connections.is_open(conn) {
-            return None;
-        }
-        let number = self.socket_number(conn);
-        match self.connections.read(conn, now, buf) {
-            Reading::Piece(len) => {
-                self.ready.push(number);
-                Some(ServerStep::Piece { conn, len })
-            }
-            Reading::Ended(end) => Some(self.end(conn, end)),
-            Reading::Again => {
-                self.ready.push(number);
-                None
-            }
-            Reading::Dry => None,
-        }
-    }
-
-    // Takes what a socket has, once.
+    // A step of a socket.
     fn take(&mut self, number: usize, now: Instant, buf: &mut [u8]) -> Option<ServerStep>
-        ensures { IfLawful (standing self.old) (standing self.new) (length buf.new) result }
+        ensures lawful { IfLawful (standing self.old) (standing self.new) (length buf.new) result }
+        ensures bounded { IfSome result (IsBounded (framings self.new) buf.new) }
+        ensures returns { Returns number (line self.old) (line self.new) }
     {
-        let Some(listener) = number.checked_sub(1) else {
-            return self.take_input(now, buf);
-        };
-        match self.listeners.get(listener) {
-            Some(Bound::Streams { .. }) => self.accept(listener, now),
-            Some(Bound::Datagrams { .. }) => self.receive(listener, buf),
+        match number.checked_sub(1) {
+            Some(socket) => {
+                let taken = self.open.take(socket, now, buf);
+                let most = self.open.steps_of(socket);
+                self.settle(number, most, taken.retry);
+                self.use_room(taken.step);
+                taken.step
+            }
             None => {
-                let conn = listener.saturating_sub(self.listeners.len());
-                match u32::try_from(conn) {
-                    Ok(conn) => self.read(conn, now, buf),
-                    Err(_) => None,
-                }
+                let taken = self.take_input(now, buf);
+                self.settle(number, 1, taken.retry);
+                taken.step
             }
         }
     }
@@ -406,7 +305,9 @@ impl<'a, R: Clock> Sockets<'a, R> {
 
     // One turn.
     fn turn(&mut self, buf: &mut [u8]) -> Option<ServerStep>
-        ensures { IfLawful (standing self.old) (standing self.new) (length buf.new) result }
+        ensures lawful { IfLawful (standing self.old) (standing self.new) (length buf.new) result }
+        ensures bounded { IfSome result (IsBounded (framings self.new) buf.new) }
+        ensures turn { MovesUp (line self.old) (line self.new) }
     {
         let Ok(now) = Instant::now(self.rt) else {
             return Some(ServerStep::Failed(SourceFault::Clock));
@@ -421,21 +322,23 @@ impl<'a, R: Clock> Sockets<'a, R> {
         if now.duration_since(self.ticked) >= self.period {
             return self.tick(now);
         }
-        if let Some(step) = self.end_idle(now) {
+        if let Some(step) = self.take_silent(now, buf) {
             return Some(step);
         }
         self.take_ready(now, buf)
     }
 
-    // Takes what the socket has that has waited longest, or asks the system after each round.
+    // A step of the socket that has its turn. The system is asked for more after each round.
     fn take_ready(&mut self, now: Instant, buf: &mut [u8]) -> Option<ServerStep>
-        ensures { IfLawful (standing self.old) (standing self.new) (length buf.new) result }
+        ensures lawful { IfLawful (standing self.old) (standing self.new) (length buf.new) result }
+        ensures bounded { IfSome result (IsBounded (framings self.new) buf.new) }
+        ensures turn { MovesUp (line self.old) (line self.new) }
     {
         let Some(round) = self.round.checked_sub(1) else {
             return self.ask(now);
         };
         self.round = round;
-        match self.ready.pop() {
+        match self.ready.next() {
             Some(number) => self.take(number, now, buf),
             None => None,
         }
@@ -443,7 +346,8 @@ impl<'a, R: Clock> Sockets<'a, R> {
 
     /// The next step.
     pub(crate) fn next_step(&mut self, buf: &mut [u8]) -> ServerStep
-        ensures { IsLawful (standing self.old) (standing self.new) (length buf.new) result }
+        ensures lawful { IsLawful (standing self.old) (standing self.new) (length buf.new) result }
+        ensures bounded { IsBounded (framings self.new) buf.new result }
     {
         if buf.is_empty() {
             return ServerStep::Failed(SourceFault::NoRoom);
@@ -489,14 +393,16 @@ impl<'a, R: Net + Files + Clock> Sockets<'a, R> {
         let numbers = listener_number(bound.len()).saturating_add(limit);
         Ok(Sockets {
             rt,
-            poll,
+            open: OpenSockets {
+                poll,
+                listeners: bound,
+                connections: Connections::new(alloc, limit, now)?,
+                spare: spare_descriptor(),
+            },
             events: Events::with_capacity(alloc, REPORTED_MAX)?,
-            listeners: bound,
-            connections: Connections::new(alloc, limit, now)?,
             ready: ReadyQueue::new(alloc, numbers)?,
             round: 0,
             later: false,
-            spare: spare_descriptor(),
             period: options.period.max(Duration::from_millis(PERIOD_MIN_MILLIS)),
             ticked: now,
             at_once: options.period.is_zero(),

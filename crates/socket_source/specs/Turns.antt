@@ -1,0 +1,50 @@
+-- How much one turn of a connection gives.
+use Rattle.std.specs.Prelude.{◌≡◌, ◌⊎◌, ℕ, zero, suc, ◌+◌, ◌-◌, ◌<◌, ◌≤◌, ◌==◌, ◌&&◌, ◌||◌, Bool, List, if◌then◌else◌, slice_index}
+use Rattle.std.specs.Char.{is_ascii_digit}
+use Rattle.std.specs.Prelude.{Option, IfSome, option_map}
+use Rattle.syslog_frame.specs.declared.framing.Framing.{Framing}
+use Rattle.syslog_frame.specs.declared.framing.Framing.TheVariants.{Counted, Lf}
+use Rattle.socket_source.specs.declared.limits.TheConstants.{TURN_FRAMES, TURN_OCTETS}
+use Rattle.socket_source.specs.declared.refusal.Reading.{Reading}
+use Rattle.socket_source.specs.declared.refusal.Reading.TheVariants as reading
+use Rattle.socket_source.specs.declared.step.ServerStep.{ServerStep}
+use Rattle.socket_source.specs.declared.step.ServerStep.TheVariants.{Opened, Piece, Ended, Datagram, TurnedAway}
+use Rattle.socket_source.specs.declared.step.ServerStep.TheVariants.{Tick, InputEnded, Finished, Failed}
+
+-- Whether the octet at a place may be the last of a frame of lines, or of the count before a frame (RFC 6587, 3.4.1: MSG-LEN SP). The
+-- digit before the first octet may have come before.
+abbrev pub is_mark : Framing → List ℕ → ℕ → Bool
+is_mark Lf octets n = slice_index octets n == 10
+is_mark Counted octets n = (slice_index octets n == 32) && ((n == 0) || is_ascii_digit (slice_index octets (n - 1)))
+
+-- how many of the first octets are such
+abbrev pub marks : Framing → List ℕ → ℕ → ℕ
+marks framing octets zero = 0
+marks framing octets (suc n) = marks framing octets n + (if is_mark framing octets n then 1 else 0)
+
+-- so many of some first octets are given: all, or those up to the last mark that a turn may have
+pub record IsFront (framing : Framing) (octets : List ℕ) (len front : ℕ) : Type 0 where
+  pub within : front ≤ len
+  pub few : marks framing octets front ≤ TURN_FRAMES
+  pub most : (front ≡ len) ⊎ (marks framing octets front ≡ TURN_FRAMES)
+  pub least : (n : ℕ) → n < front → marks framing octets n < TURN_FRAMES
+
+-- a read gives no more than a turn may
+abbrev pub ReadsFront : Framing → List ℕ → Reading → Type 0
+ReadsFront framing octets (reading.Piece len) = (len ≤ TURN_OCTETS) × (marks framing octets len ≤ TURN_FRAMES)
+ReadsFront framing octets (reading.Ended end) = Unit {0}
+ReadsFront framing octets reading.Dry = Unit {0}
+ReadsFront framing octets reading.Again = Unit {0}
+
+-- a step gives no more octets of a connection than a turn may, where these are the framings of those that are open
+abbrev pub IsBounded : (ℕ → Option Framing) → List ℕ → ServerStep → Type 0
+IsBounded framings octets (Opened conn listener framing peer) = Unit {0}
+IsBounded framings octets (Piece conn len) =
+    (len ≤ TURN_OCTETS) × IfSome (framings conn) (λ framing. marks framing octets len ≤ TURN_FRAMES)
+IsBounded framings octets (Ended conn end) = Unit {0}
+IsBounded framings octets (Datagram listener peer len) = Unit {0}
+IsBounded framings octets (TurnedAway listener framing peer) = Unit {0}
+IsBounded framings octets Tick = Unit {0}
+IsBounded framings octets InputEnded = Unit {0}
+IsBounded framings octets Finished = Unit {0}
+IsBounded framings octets (Failed fault) = Unit {0}

@@ -1,0 +1,210 @@
+//! The sockets that are listened on, and those that are open.
+ghost use Rattle.std.specs.Prelude.{◌≡◌, ◌<◌, ◌≤◌, true, length, vec_len, IfSome};
+ghost use Rattle.socket_source.specs.Sockets.{IsAt, IsOf};
+ghost use Rattle.socket_source.specs.Steps.{Becomes, IfLawful, IsLawful, without_open};
+ghost use Rattle.socket_source.specs.Turns.{IsBounded};
+
+use crate::bound::{Bound, accept_from, receive};
+use crate::connections::Connections;
+use crate::limits::{ACCEPTS_A_TURN, DATAGRAMS_A_TURN};
+use crate::ready::listener_number;
+use crate::refusal::{Reading, Refusal, Retry, retry_of};
+use crate::step::{ConnectionEnd, ServerStep};
+use crate::system::spare_descriptor;
+use mio::Poll;
+use mio::net::TcpStream;
+use std::net::SocketAddr;
+use std::os::fd::OwnedFd;
+use std::time::Instant;
+use syslog_frame::Framing;
+
+/// What a step of a socket gave, and when the socket is tried again.
+#[derive(Clone, Copy)]
+pub(crate) struct Taken {
+    pub(crate) step: Option<ServerStep>,
+    pub(crate) retry: Retry,
+}
+
+impl Taken {
+    /// Nothing.
+    pub(crate) fn none(retry: Retry) -> Taken
+        ensures { result ≡ record { step = None; retry = retry } }
+    {
+        Taken { step: None, retry }
+    }
+
+    /// A step.
+    pub(crate) fn some(step: ServerStep, retry: Retry) -> Taken
+        ensures { result ≡ record { step = Some step; retry = retry } }
+    {
+        Taken {
+            step: Some(step),
+            retry,
+        }
+    }
+}
+
+/// The sockets that are listened on, and those that are open.
+#[derive(Drop)]
+pub(crate) struct OpenSockets {
+    pub(crate) poll: Poll,
+    pub(crate) listeners: Vec<Bound>,
+    pub(crate) connections: Connections,
+    pub(crate) spare: Option<OwnedFd>,
+}
+
+impl OpenSockets {
+    ghost use Rattle.socket_source.specs.Standings.{framings_of, standing_of};
+
+    // Opens a connection that was accepted, or turns it away.
+    fn admit(
+        &mut self,
+        listener: usize,
+        framing: Framing,
+        accepted: (TcpStream, SocketAddr),
+        now: Instant,
+    ) -> ServerStep
+        requires { listener < vec_len self.old.listeners }
+        ensures lawful { IsLawful (standing_of self.old) (standing_of self.new) 0 result }
+        ensures at { IsAt listener result }
+    {
+        let (stream, peer) = accepted;
+        let first = listener_number(self.listeners.len());
+        let registry = self.poll.registry();
+        match self.connections.keep(registry, first, stream, framing, now) {
+            Some(conn) => ServerStep::Opened {
+                conn,
+                listener,
+                framing,
+                peer,
+            },
+            None => ServerStep::TurnedAway {
+                listener,
+                framing,
+                peer,
+            },
+        }
+    }
+
+    // Accepts a connection.
+    fn accept(&mut self, listener: usize, now: Instant) -> Taken
+        ensures lawful { IfLawful (standing_of self.old) (standing_of self.new) 0 result.step }
+        ensures at { IfSome result.step (IsAt listener) }
+    {
+        let Some(Bound::Streams { socket, framing }) = self.listeners.get(listener) else {
+            return Taken::none(Retry::Reported);
+        };
+        let framing = *framing;
+        match accept_from(socket) {
+            Ok(accepted) => Taken::some(self.admit(listener, framing, accepted, now), Retry::Now),
+            Err(Refusal::Exhausted) => self.turn_away(listener),
+            Err(refusal) => Taken::none(retry_of(refusal)),
+        }
+    }
+
+    // Accepts a connection in the place of the spare descriptor, and closes it. Where even that
+    // fails, the listener is tried again later.
+    fn turn_away(&mut self, listener: usize) -> Taken
+        ensures lawful { IfLawful (standing_of self.old) (standing_of self.new) 0 result.step }
+        ensures at { IfSome result.step (IsAt listener) }
+    {
+        self.spare = None;
+        let Some(Bound::Streams { socket, framing }) = self.listeners.get(listener) else {
+            return Taken::none(Retry::Reported);
+        };
+        let framing = *framing;
+        let taken = match accept_from(socket) {
+            Ok((stream, peer)) => {
+                drop(stream);
+                let step = ServerStep::TurnedAway {
+                    listener,
+                    framing,
+                    peer,
+                };
+                Taken::some(step, Retry::Now)
+            }
+            Err(_) => Taken::none(Retry::Later),
+        };
+        self.spare = spare_descriptor();
+        taken
+    }
+
+    // Receives a datagram.
+    fn receive(&mut self, listener: usize, buf: &mut [u8]) -> Taken
+        ensures at { IfSome result.step (IsAt listener) }
+        ensures lawful { IfLawful (standing_of self.old) (standing_of self.new) (length buf.new) result.step }
+    {
+        let Some(Bound::Datagrams { socket, addressed }) = self.listeners.get(listener) else {
+            return Taken::none(Retry::Reported);
+        };
+        match receive(socket, *addressed, buf) {
+            Ok((len, peer)) => {
+                let step = ServerStep::Datagram {
+                    listener,
+                    peer,
+                    len,
+                };
+                Taken::some(step, Retry::Now)
+            }
+            Err(refusal) => Taken::none(retry_of(refusal)),
+        }
+    }
+
+    /// Closes a connection.
+    pub(crate) fn close(&mut self, conn: u32)
+        ensures { Becomes (standing_of self.old) (standing_of self.new)
+            (without_open conn (standing_of self.old).live) }
+    {
+        self.connections.close(conn);
+    }
+
+    /// Reads a connection, if one is open under the number. One that is silent, and has nothing to
+    /// read, ends.
+    pub(crate) fn read(&mut self, conn: u32, is_silent: bool, now: Instant, buf: &mut [u8]) -> Taken
+        ensures of { IfSome result.step (IsOf conn) }
+        ensures lawful { IfLawful (standing_of self.old) (standing_of self.new) (length buf.new) result.step }
+        ensures bounded { IfSome result.step (IsBounded (framings_of self.new) buf.new) }
+    {
+        if !self.connections.is_open(conn) {
+            return Taken::none(Retry::Reported);
+        }
+        match self.connections.read(conn, is_silent, now, buf) {
+            Reading::Piece(len) => Taken::some(ServerStep::Piece { conn, len }, Retry::Now),
+            Reading::Ended(end) => {
+                self.close(conn);
+                Taken::some(ServerStep::Ended { conn, end }, Retry::Reported)
+            }
+            Reading::Again => Taken::none(Retry::Now),
+            Reading::Dry => Taken::none(Retry::Reported),
+        }
+    }
+
+    /// Takes what a socket has, once: that of a listener, or behind them that of a connection.
+    pub(crate) fn take(&mut self, socket: usize, now: Instant, buf: &mut [u8]) -> Taken
+        ensures lawful { IfLawful (standing_of self.old) (standing_of self.new) (length buf.new) result.step }
+        ensures bounded { IfSome result.step (IsBounded (framings_of self.new) buf.new) }
+    {
+        match self.listeners.get(socket) {
+            Some(Bound::Streams { .. }) => self.accept(socket, now),
+            Some(Bound::Datagrams { .. }) => self.receive(socket, buf),
+            None => {
+                let conn = socket.saturating_sub(self.listeners.len());
+                match u32::try_from(conn) {
+                    Ok(conn) => self.read(conn, false, now, buf),
+                    Err(_) => Taken::none(Retry::Reported),
+                }
+            }
+        }
+    }
+
+    /// How many steps a turn of a socket has at most.
+    pub(crate) fn steps_of(&self, socket: usize) -> usize
+        ensures { result ≤ DATAGRAMS_A_TURN }
+    {
+        match self.listeners.get(socket) {
+            Some(Bound::Streams { .. }) => ACCEPTS_A_TURN,
+            Some(Bound::Datagrams { .. }) => DATAGRAMS_A_TURN,
+            None => 1,
+        }
+    }
+}
