@@ -2,3 +2,4 @@ pub mod Numbers
 pub mod Listing
 pub mod Stays
 pub mod Orders
+pub mod Places

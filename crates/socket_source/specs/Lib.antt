@@ -8,3 +8,4 @@ pub mod Opens
 pub mod Turns
 pub mod Framings
 pub mod Lines
+pub mod Peers

@@ -4,6 +4,7 @@ use Rattle.slab.specs.Slab.{Slab, get}
 use Rattle.socket_source.specs.Steps.{with_open}
 use Rattle.socket_source.specs.declared.refusal.Reading.{Reading}
 use Rattle.socket_source.specs.declared.refusal.Reading.TheVariants.{Piece, Ended, Dry, Again}
+use Rattle.socket_source.specs.declared.step.ConnectionEnd.TheVariants as end
 use Rattle.socket_source.specs.declared.step.ServerStep.{ServerStep}
 use Rattle.socket_source.specs.declared.step.ServerStep.TheVariants as step
 use Rattle.socket_source.specs.declared.step.ServerStep.TheVariants.{Opened, Datagram, TurnedAway, Tick, InputEnded, Finished, Failed}
@@ -48,3 +49,15 @@ IsAt listener Tick = ⊥
 IsAt listener InputEnded = ⊥
 IsAt listener Finished = ⊥
 IsAt listener (Failed fault) = ⊥
+
+-- the step is of this listener, or ends a connection that makes room for one of it
+abbrev pub IsAtOrDisplaced : ℕ → ServerStep → Type 0
+IsAtOrDisplaced listener (Opened conn l framing peer) = l ≡ listener
+IsAtOrDisplaced listener (step.Piece conn len) = ⊥
+IsAtOrDisplaced listener (step.Ended conn e) = e ≡ end.Displaced
+IsAtOrDisplaced listener (Datagram l peer len) = l ≡ listener
+IsAtOrDisplaced listener (TurnedAway l framing peer) = l ≡ listener
+IsAtOrDisplaced listener Tick = ⊥
+IsAtOrDisplaced listener InputEnded = ⊥
+IsAtOrDisplaced listener Finished = ⊥
+IsAtOrDisplaced listener (Failed fault) = ⊥

@@ -3,11 +3,14 @@ ghost use Rattle.std.specs.Prelude.{◌≡◌, ◌≤◌, length, IfOk};
 
 use crate::listener::{Inherited, Listener};
 use crate::refusal::{Refusal, refusal_of};
-use crate::system::{bind_datagrams, check, listen_at, set_receive_buffer, takes_connections};
+use crate::system::{
+    bind_datagrams, bound_port, check, listen_at, raise_receive_buffer, takes_connections,
+};
 use crate::unix_path::bind_path;
 use mio::net::{TcpListener, TcpStream, UdpSocket};
 use mio::{Interest, Registry, Token};
 use os::FromRawFd;
+use std::alloc::Global;
 use std::io;
 use std::net::SocketAddr;
 use std::os::fd::{AsRawFd, OwnedFd, RawFd};
@@ -43,12 +46,23 @@ fn datagrams(socket: OwnedFd, addressed: bool) -> Bound {
     }
 }
 
+// Refuses a socket that has no port: to listen on it would give it one that nobody knows.
+fn check_bound(fd: RawFd) -> io::Result<()> {
+    match bound_port(fd)? {
+        Some(_) => Ok(()),
+        None => Err(io::Error::new(io::ErrorKind::InvalidInput, "a socket that has no port")),
+    }
+}
+
 /// Refuses a descriptor that was handed over if it is not what is asked for. Afterwards its calls
 /// do not wait.
 pub(crate) fn check_inherited(fd: RawFd, inherited: Inherited) -> io::Result<()> {
     let is_fit = match inherited {
         Inherited::Udp => !takes_connections(fd)?,
-        Inherited::Counted | Inherited::Lf => takes_connections(fd)?,
+        Inherited::Counted | Inherited::Lf => {
+            check_bound(fd)?;
+            takes_connections(fd)?
+        }
     };
     if !is_fit {
         return Err(io::Error::new(io::ErrorKind::InvalidInput, "a socket of another kind"));
@@ -78,12 +92,17 @@ fn inherited_streams(owned: OwnedFd, framing: Framing) -> io::Result<Bound> {
 }
 
 /// Binds a listener's socket. An inherited one is the descriptor with this number.
-pub(crate) fn bind(rt: &impl Files, listener: Listener<'_>, inherited: u16) -> io::Result<Bound> {
+pub(crate) fn bind(
+    rt: &impl Files,
+    alloc: Global,
+    listener: Listener<'_>,
+    inherited: u16,
+) -> io::Result<Bound> {
     match listener {
         Listener::Udp(addr) => Ok(datagrams(bind_datagrams(addr)?, true)),
         Listener::Counted(addr) => Ok(streams(listen_at(addr)?, Framing::Counted)),
         Listener::Lf(addr) => Ok(streams(listen_at(addr)?, Framing::Lf)),
-        Listener::Unix(path) => Ok(datagrams(bind_path(rt, path)?, false)),
+        Listener::Unix(path) => Ok(datagrams(bind_path(rt, alloc, path)?, false)),
         Listener::Inherited(kind) => take_inherited(inherited, kind),
     }
 }
@@ -119,11 +138,11 @@ impl Bound {
         }
     }
 
-    /// Asks for `octets` octets of room for datagrams that have come and wait.
-    pub(crate) fn set_receive_buffer(&self, octets: u32) -> io::Result<()> {
+    /// Asks for `octets` octets of room for datagrams that have come and wait, where there are fewer.
+    pub(crate) fn raise_receive_buffer(&self, octets: u32) -> io::Result<()> {
         match self {
             Bound::Streams { .. } => Ok(()),
-            Bound::Datagrams { socket, .. } => set_receive_buffer(socket.as_raw_fd(), octets),
+            Bound::Datagrams { socket, .. } => raise_receive_buffer(socket.as_raw_fd(), octets),
         }
     }
 

@@ -15,6 +15,8 @@ use syslog_frame::Framing;
 pub(crate) struct Connection {
     pub(crate) stream: TcpStream,
     pub(crate) framing: Framing,
+    // the number of its peer's address
+    pub(crate) peer: u128,
 }
 
 // What the answer of a read tells.

@@ -1,12 +1,14 @@
 //! The connections that are open.
-ghost use Rattle.std.specs.Prelude.{◌≡◌, ◌≤◌, ◌<◌, length, true, false, IfSome, IfNone, IfOk, ℕ};
+ghost use Rattle.std.specs.Prelude.{◌≡◌, ◌≤◌, ◌<◌, length, true, false, IfSome, IfNone, IfOk, IsTrue, ℕ};
 ghost use Rattle.socket_source.specs.Steps.{with_open, without_open};
 ghost use Rattle.socket_source.specs.Sockets.{open_in, IsOpenedAs, ReadsWithin};
 ghost use Rattle.socket_source.specs.Turns.{ReadsFront};
-ghost use Rattle.socket_source.specs.Framings.{framing_in};
+ghost use Rattle.socket_source.specs.Framings.{framing_in, rank_in};
+ghost use Rattle.socket_source.specs.Peers.{count_of};
 
 use crate::connection::Connection;
 use crate::limits::{CONNECTIONS_MAX, TURN_OCTETS};
+use crate::peers::Peers;
 use crate::refusal::{Reading, ended_if_dry};
 use crate::system::first_kept_descriptor;
 use mio::net::TcpStream;
@@ -29,13 +31,29 @@ pub(crate) struct Connections {
     pub(crate) limit: usize,
     // the first descriptor that none is to have
     kept: RawFd,
+    // how many connections each address has, and may have
+    pub(crate) peers: Peers,
+    pub(crate) per_peer: u64,
     ghost few: { limit ≤ 16384 },
+}
+
+// Whether a connection's address has more connections, or as many and this one was silent for longer.
+fn is_above(rank: (u64, Duration), other: (u64, Duration)) -> bool
+    ensures above { result ≡ true → other.0 ≤ rank.0 }
+    ensures below { result ≡ false → rank.0 ≤ other.0 }
+{
+    rank.0 > other.0 || (rank.0 == other.0 && rank.1 > other.1)
 }
 
 impl Connections {
     /// No open connections, and room for as many as the limit says. It fails only when out of
     /// memory.
-    pub(crate) fn new(alloc: Global, limit: usize, now: Instant) -> Result<Connections, AllocError>
+    pub(crate) fn new(
+        alloc: Global,
+        limit: usize,
+        per_peer: usize,
+        now: Instant,
+    ) -> Result<Connections, AllocError>
         ensures none { IfOk result (λ all. (n : ℕ) → open_in all.streams n ≡ false) }
         ensures limit { limit ≤ 16384 → IfOk result (λ all. all.limit ≡ limit) }
     {
@@ -46,15 +64,24 @@ impl Connections {
             spent: vec![in alloc; 0u8; TURN_OCTETS]?,
             limit,
             kept: first_kept_descriptor(),
+            peers: Peers::new(alloc),
+            per_peer: per_peer.max(1) as u64,
         })
     }
 
-    // A number for a connection more with this descriptor, if there is room for it.
-    fn vacant_number(&self, descriptor: RawFd) -> Option<usize>
-        ensures { IfSome result (λ key. (key ≡ self.now.streams.vacant_key) × (key < self.now.limit)) }
+    // A number for a connection more with this descriptor, if there is room for it, and its address
+    // may have one more.
+    fn vacant_number(&self, descriptor: RawFd, peer: u128) -> Option<usize>
+        ensures number { IfSome result (λ key. (key ≡ self.now.streams.vacant_key) × (key < self.now.limit)) }
+        ensures few { IfSome result (λ key. count_of self.now.peers peer < self.now.per_peer) }
     {
         let key = self.streams.vacant_key();
-        if descriptor < self.kept && self.streams.len() < self.limit && key < self.limit {
+        let may_have = self.peers.count(peer) < self.per_peer;
+        if may_have
+            && descriptor < self.kept
+            && self.streams.len() < self.limit
+            && key < self.limit
+        {
             return Some(key);
         }
         None
@@ -68,19 +95,31 @@ impl Connections {
         first: usize,
         mut stream: TcpStream,
         framing: Framing,
+        peer: u128,
         now: Instant,
     ) -> Option<u32>
         ensures kept { IfSome result (λ conn. IsOpenedAs self.old.streams self.new.streams self.old.limit conn) }
         ensures framing { IfSome result (λ conn. framing_in self.new.streams conn ≡ Some framing) }
+        // An address has no more than it may.
+        ensures few { IfSome result (λ conn. count_of self.new.peers peer ≤ self.old.per_peer) }
         ensures none { IfNone result ((n : ℕ) → open_in self.new.streams n ≡ open_in self.old.streams n) }
         ensures limit { self.new.limit ≡ self.old.limit }
     {
-        let key = self.vacant_number(stream.as_raw_fd())?;
+        let key = self.vacant_number(stream.as_raw_fd(), peer)?;
         let token = Token(first.saturating_add(key));
         registry
             .register(&mut stream, token, Interest::READABLE)
             .ok()?;
-        let key = self.streams.insert(Connection { stream, framing }).ok()?;
+        self.peers.add(peer).ok()?;
+        let connection = Connection {
+            stream,
+            framing,
+            peer,
+        };
+        let Ok(key) = self.streams.insert(connection) else {
+            self.peers.remove(peer);
+            return None;
+        };
         self.note_heard(key, now);
         Some(key as u32)
     }
@@ -127,7 +166,51 @@ impl Connections {
             ≡ without_open conn (open_in self.old.streams) n }
         ensures limit { self.new.limit ≡ self.old.limit }
     {
-        let _closed = self.streams.try_remove(conn as usize);
+        if let Some(closed) = self.streams.try_remove(conn as usize) {
+            self.peers.remove(closed.peer);
+        }
+    }
+
+    /// Whether an address has no connection, and another has to end before it can have one.
+    pub(crate) fn lacks_place(&self, peer: u128) -> bool
+        ensures { IsTrue result → count_of self.now.peers peer ≡ 0 }
+    {
+        self.streams.len() >= self.limit && self.peers.count(peer) == 0
+    }
+
+    // How many connections the address of a connection has, and for how long this one was silent.
+    fn rank(&self, key: usize, now: Instant) -> Option<(u64, Duration)>
+        ensures count { IfSome result (λ rank. rank.0 ≡ rank_in self.now.peers self.now.streams key) }
+        ensures is_open { IfSome result (λ rank. open_in self.now.streams key ≡ true) }
+        ensures none { IfNone result (rank_in self.now.peers self.now.streams key ≡ 0) }
+    {
+        let connection = self.streams.get(key)?;
+        let count = self.peers.count(connection.peer);
+        let silence = match self.heard.get(key) {
+            Some(heard) => now.duration_since(*heard),
+            None => Duration::ZERO,
+        };
+        Some((count, silence))
+    }
+
+    /// The connection that makes room for an address that has none: of an address that has most, the
+    /// one that was silent longest.
+    pub(crate) fn find_displaced(&self, now: Instant) -> Option<u32>
+        ensures is_open { IfSome result (λ conn. open_in self.now.streams conn ≡ true) }
+        ensures most { IfSome result (λ conn. (n : ℕ) → n < self.now.limit
+            → rank_in self.now.peers self.now.streams n ≤ rank_in self.now.peers self.now.streams conn) }
+    {
+        let mut found = None;
+        let mut highest = (0, Duration::ZERO);
+        for key in 0..self.limit {
+            if let Some(rank) = self.rank(key, now) {
+                if is_above(rank, highest) {
+                    found = Some(key as u32);
+                    highest = rank;
+                }
+            }
+        }
+        found
     }
 
     /// The first connection, from a number on, that has given nothing for so long.
@@ -145,6 +228,7 @@ impl Connections {
     // A connection gives octets now.
     fn note_heard(&mut self, key: usize, now: Instant)
         ensures same { self.new.streams ≡ self.old.streams }
+        ensures peers { self.new.peers ≡ self.old.peers }
         ensures limit { self.new.limit ≡ self.old.limit }
     {
         if let Some(heard) = self.heard.get_mut(key) {

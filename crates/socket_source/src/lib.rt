@@ -19,6 +19,7 @@ mod open_fault;
 mod open_sockets;
 mod opening;
 mod options;
+mod peers;
 mod ready;
 mod refusal;
 mod socket_source;

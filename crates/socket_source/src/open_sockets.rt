@@ -1,12 +1,13 @@
 //! The sockets that are listened on, and those that are open.
-ghost use Rattle.std.specs.Prelude.{◌≡◌, ◌<◌, ◌≤◌, true, length, vec_len, IfSome};
-ghost use Rattle.socket_source.specs.Sockets.{IsAt, IsOf};
+ghost use Rattle.std.specs.Prelude.{◌≡◌, ◌<◌, ◌≤◌, true, length, vec_len, IfNone, IfSome, IsSome, None};
+ghost use Rattle.socket_source.specs.Sockets.{IsAt, IsAtOrDisplaced, IsOf};
 ghost use Rattle.socket_source.specs.Steps.{Becomes, IfLawful, IsLawful, without_open};
 ghost use Rattle.socket_source.specs.Turns.{IsBounded};
 
 use crate::bound::{Bound, accept_from, receive};
 use crate::connections::Connections;
 use crate::limits::{ACCEPTS_A_TURN, DATAGRAMS_A_TURN};
+use crate::peers::peer_number;
 use crate::ready::listener_number;
 use crate::refusal::{Reading, Refusal, Retry, retry_of};
 use crate::step::{ConnectionEnd, ServerStep};
@@ -51,6 +52,17 @@ pub(crate) struct OpenSockets {
     pub(crate) listeners: Vec<Bound>,
     pub(crate) connections: Connections,
     pub(crate) spare: Option<OwnedFd>,
+    // the connection for which another has just ended
+    pub(crate) arrived: Option<Arrived>,
+}
+
+/// A connection that was accepted, and is opened in the next step of a listener.
+#[derive(Drop)]
+pub(crate) struct Arrived {
+    listener: usize,
+    framing: Framing,
+    stream: TcpStream,
+    peer: SocketAddr,
 }
 
 impl OpenSockets {
@@ -70,8 +82,12 @@ impl OpenSockets {
     {
         let (stream, peer) = accepted;
         let first = listener_number(self.listeners.len());
+        let number = peer_number(peer);
         let registry = self.poll.registry();
-        match self.connections.keep(registry, first, stream, framing, now) {
+        match self
+            .connections
+            .keep(registry, first, stream, framing, number, now)
+        {
             Some(conn) => ServerStep::Opened {
                 conn,
                 listener,
@@ -86,17 +102,72 @@ impl OpenSockets {
         }
     }
 
+    // Opens a connection that was accepted, or ends another to make room for it: then it is opened in
+    // the next step of a listener.
+    #[tactic(auto, using(crate::proofs::Places::at_or_displaced))]
+    fn make_room(
+        &mut self,
+        listener: usize,
+        framing: Framing,
+        accepted: (TcpStream, SocketAddr),
+        now: Instant,
+    ) -> ServerStep
+        requires { listener < vec_len self.old.listeners }
+        ensures lawful { IsLawful (standing_of self.old) (standing_of self.new) 0 result }
+        ensures at { IsAtOrDisplaced listener result }
+    {
+        if !self.connections.lacks_place(peer_number(accepted.1)) {
+            return self.admit(listener, framing, accepted, now);
+        }
+        let Some(conn) = self.connections.find_displaced(now) else {
+            return self.admit(listener, framing, accepted, now);
+        };
+        self.close(conn);
+        let (stream, peer) = accepted;
+        self.arrived = Some(Arrived {
+            listener,
+            framing,
+            stream,
+            peer,
+        });
+        ServerStep::Ended {
+            conn,
+            end: ConnectionEnd::Displaced,
+        }
+    }
+
+    // Opens the connection for which another has ended, if there is one.
+    fn admit_arrived(&mut self, now: Instant) -> Option<ServerStep>
+        ensures lawful { IfLawful (standing_of self.old) (standing_of self.new) 0 result }
+        ensures none { IfNone result (self.new ≡ record self.old { arrived = None }) }
+        ensures one { IsSome result → IsSome self.old.arrived }
+    {
+        let Arrived {
+            listener,
+            framing,
+            stream,
+            peer,
+        } = self.arrived.take()?;
+        if listener >= self.listeners.len() {
+            return None;
+        }
+        Some(self.admit(listener, framing, (stream, peer), now))
+    }
+
     // Accepts a connection.
+    #[tactic(auto, using(crate::proofs::Places::at_or_displaced))]
     fn accept(&mut self, listener: usize, now: Instant) -> Taken
         ensures lawful { IfLawful (standing_of self.old) (standing_of self.new) 0 result.step }
-        ensures at { IfSome result.step (IsAt listener) }
+        ensures at { IfSome result.step (IsAtOrDisplaced listener) }
     {
         let Some(Bound::Streams { socket, framing }) = self.listeners.get(listener) else {
             return Taken::none(Retry::Reported);
         };
         let framing = *framing;
         match accept_from(socket) {
-            Ok(accepted) => Taken::some(self.admit(listener, framing, accepted, now), Retry::Now),
+            Ok(accepted) => {
+                Taken::some(self.make_room(listener, framing, accepted, now), Retry::Now)
+            }
             Err(Refusal::Exhausted) => self.turn_away(listener),
             Err(refusal) => Taken::none(retry_of(refusal)),
         }
@@ -185,7 +256,10 @@ impl OpenSockets {
         ensures bounded { IfSome result.step (IsBounded (framings_of self.new) buf.new) }
     {
         match self.listeners.get(socket) {
-            Some(Bound::Streams { .. }) => self.accept(socket, now),
+            Some(Bound::Streams { .. }) => match self.admit_arrived(now) {
+                Some(step) => Taken::some(step, Retry::Now),
+                None => self.accept(socket, now),
+            },
             Some(Bound::Datagrams { .. }) => self.receive(socket, buf),
             None => {
                 let conn = socket.saturating_sub(self.listeners.len());

@@ -34,15 +34,16 @@ pub(crate) fn check_descriptors(listeners: &[Listener<'_>]) -> Result<(), OpenFa
 // Opens a listener's socket, and has the system report it.
 fn open_listener(
     rt: &impl Files,
+    alloc: Global,
     registry: &Registry,
     asked: Listener<'_>,
     inherited: u16,
     number: usize,
     receive_buffer: Option<u32>,
 ) -> io::Result<Bound> {
-    let mut bound = bind(rt, asked, inherited)?;
+    let mut bound = bind(rt, alloc, asked, inherited)?;
     if let Some(octets) = receive_buffer {
-        bound.set_receive_buffer(octets)?;
+        bound.raise_receive_buffer(octets)?;
     }
     bound.register(registry, number)?;
     Ok(bound)
@@ -63,7 +64,15 @@ pub(crate) fn open_listeners(
     let mut inherited = FIRST_INHERITED;
     for (listener, asked) in listeners.iter().enumerate() {
         let number = listener_number(listener);
-        match open_listener(rt, registry, *asked, inherited, number, receive_buffer) {
+        match open_listener(
+            rt,
+            alloc,
+            registry,
+            *asked,
+            inherited,
+            number,
+            receive_buffer,
+        ) {
             Ok(bound) => all.push(bound).map_err(AllocError::from)?,
             Err(cause) => return Err(OpenFault::Listener { listener, cause }),
         }

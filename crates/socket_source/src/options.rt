@@ -9,6 +9,10 @@ pub struct SourceOptions {
     /// [`CONNECTIONS_MAX`](crate::CONNECTIONS_MAX); a number outside is taken for the nearest of
     /// these.
     pub connections: usize,
+    /// How many connections one address may have open at once, at least 1. An IPv6 address that
+    /// stands for one of IPv4 counts as that one. If all places are taken, an address that has none
+    /// gets that of the connection that was silent longest of an address that has most.
+    pub per_peer: usize,
     /// How long a connection may give nothing before it is closed, to within a period; None means
     /// for ever.
     pub idle: Option<Duration>,
@@ -18,6 +22,6 @@ pub struct SourceOptions {
     /// Whether the source watches standard input, and ends with it.
     pub until_eof: bool,
     /// How many octets of room each socket gets for datagrams that have come and wait, as far as
-    /// the system allows.
+    /// the system allows. One that has more keeps it.
     pub receive_buffer: Option<u32>,
 }

@@ -12,6 +12,8 @@ pub enum ConnectionEnd {
     Reset,
     /// Nothing came on it for as long as it may be idle, so it was closed.
     Idle,
+    /// Its place was given to another address.
+    Displaced,
 }
 
 /// Why a source gives nothing more.

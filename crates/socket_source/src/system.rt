@@ -111,11 +111,30 @@ fn set_keep_alive(socket: &OwnedFd) -> io::Result<()> {
     check(unsafe { c::setsockopt(fd, c::SOL_SOCKET, c::SO_KEEPALIVE, &on, 4) })
 }
 
-/// Asks for `octets` octets of room for what has come to a socket and waits. The system gives at
-/// most net.core.rmem_max.
-pub(crate) fn set_receive_buffer(fd: RawFd, octets: u32) -> io::Result<()> {
+// How many octets of room a socket has for what has come and waits: twice those that were asked for.
+fn receive_buffer(fd: RawFd) -> io::Result<i32> {
+    let mut value = [0u8; 16];
+    let mut len = 16;
+    check(unsafe { c::getsockopt(fd, c::SOL_SOCKET, c::SO_RCVBUF, &mut value, &mut len) })?;
+    Ok(i32::from_ne_bytes([value[0], value[1], value[2], value[3]]))
+}
+
+fn set_receive_buffer(fd: RawFd, octets: u32) -> io::Result<()> {
     let value = option_value(octets.min(i32::MAX as u32) as i32);
     check(unsafe { c::setsockopt(fd, c::SOL_SOCKET, c::SO_RCVBUF, &value, 4) })
+}
+
+/// Asks for `octets` octets of room for what has come to a socket and waits. The system gives at
+/// most net.core.rmem_max, which another socket shows; one that has more keeps what it has, since a
+/// service manager may give more.
+pub(crate) fn raise_receive_buffer(fd: RawFd, octets: u32) -> io::Result<()> {
+    let kind = c::SOCK_DGRAM | c::SOCK_CLOEXEC;
+    let other = owned(unsafe { c::socket(c::AF_UNIX, kind, 0) })?;
+    set_receive_buffer(other.as_raw_fd(), octets)?;
+    if receive_buffer(other.as_raw_fd())? > receive_buffer(fd)? {
+        set_receive_buffer(fd, octets)?;
+    }
+    Ok(())
 }
 
 fn bind(socket: &OwnedFd, addr: SocketAddr) -> io::Result<()> {
@@ -164,6 +183,18 @@ pub(crate) fn listen_at(addr: SocketAddr) -> io::Result<OwnedFd> {
     bind(&socket, addr)?;
     check(c::listen(socket.as_raw_fd(), BACKLOG))?;
     Ok(socket)
+}
+
+/// The port that a socket of IPv4 or IPv6 is bound to. None if it is another socket, or is not bound.
+/// An error if it is no socket.
+pub(crate) fn bound_port(fd: RawFd) -> io::Result<Option<u16>> {
+    let mut address = [0u8; c::_SS_SIZE];
+    let mut len = c::_SS_SIZE as u32;
+    check(unsafe { c::getsockname(fd, &mut address, &mut len) })?;
+    let family = i32::from(u16::from_ne_bytes([address[0], address[1]]));
+    let port = u16::from_be_bytes([address[2], address[3]]);
+    let has_port = (family == c::AF_INET || family == c::AF_INET6) && port > 0;
+    Ok(has_port.then_some(port))
 }
 
 // Linux's error for a call that this kind of socket does not have

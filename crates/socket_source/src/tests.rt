@@ -21,6 +21,7 @@ use syslog_frame::Framing;
 fn options(until_eof: bool) -> SourceOptions {
     SourceOptions {
         connections: 2,
+        per_peer: 2,
         idle: None,
         period: Duration::from_secs(3_600),
         until_eof,
@@ -288,6 +289,7 @@ fn a_silent_connection_is_closed(rt: HostRuntime) -> Result<(), Fail> {
     let listeners = [Listener::Counted(address("127.0.0.1:0")?)];
     let options = SourceOptions {
         connections: 2,
+        per_peer: 2,
         idle: Some(Duration::from_millis(60)),
         period: Duration::from_millis(5),
         until_eof: false,
