@@ -1,5 +1,5 @@
 -- What is open of the sockets.
-use Rattle.std.specs.Prelude.{◌≡◌, ℕ, ◌<◌, ◌≤◌, Bool, true, false, is_some}
+use Rattle.std.specs.Prelude.{◌≡◌, ℕ, ◌<◌, ◌≤◌, Bool, false, is_some}
 use Rattle.slab.specs.Slab.{Slab, get}
 use Rattle.socket_source.specs.Steps.{with_open}
 use Rattle.socket_source.specs.declared.refusal.Reading.{Reading}

@@ -1,5 +1,5 @@
 -- The steps of a server's source: which may come, and what is open after each.
-use Rattle.std.specs.Prelude.{◌≡◌, ℕ, ◌<◌, ◌≤◌, ◌==◌, ◌&&◌, ◌||◌, not, nat_lt, Bool, true, false, List, [], ◌∷◌, length, take}
+use Rattle.std.specs.Prelude.{◌≡◌, ℕ, ◌≤◌, ◌==◌, ◌&&◌, ◌||◌, not, nat_lt, Bool, true, false, List, [], ◌∷◌, length, take}
 use Rattle.std.specs.Prelude.{Option, Some, None, if◌then◌else◌, ⊤}
 use Rattle.octet_devices.specs.Device.{count_on}
 use Rattle.socket_source.specs.declared.counts.StepCounts.{StepCounts}

@@ -1,4 +1,4 @@
-use Rattle.std.proofs.Common.{◌≡◌, ◌<◌, ◌≤◌, ℕ, Bool, length, take, ap, refl}
+use Rattle.std.proofs.Common.{Bool, length, ap, refl}
 use Rattle.std.specs.Prelude.{◌&&◌}
 use Rattle.socket_source.proofs.Listing.{len_is, put_is, some_given}
 use Rattle.socket_source.proofs.memory_source.give.Goals as goal

@@ -1,8 +1,7 @@
-use Rattle.std.proofs.Common.{◌≡◌, ◌∙◌, ◌<◌, true, false, length, get_or, arith}
+use Rattle.std.proofs.Common.{◌∙◌, ◌<◌, length, arith}
 use Rattle.std.specs.Prelude.{map}
 use Rattle.std.proofs.lemmas.List.{length-map}
 use Rattle.socket_source.specs.Scripts.{listed_item, standing_by}
-use Rattle.socket_source.specs.Steps.{finished, may_come}
 use Rattle.socket_source.proofs.Listing.{behind-passed, first_here, may_at, next_of-passed}
 use Rattle.socket_source.proofs.memory_source.MemorySource.find.Goals as goal
 

@@ -1,4 +1,4 @@
-use Rattle.std.proofs.Common.{◌≡◌, ◌∙◌, ◌<◌, length, sym, ap, arith, rules, Some}
+use Rattle.std.proofs.Common.{◌∙◌, ◌<◌, length, sym, ap, arith, rules, Some}
 use Rattle.std.proofs.lemmas.List.{length-map}
 use Rattle.socket_source.specs.Scripts.{listed_item, standing_by}
 use Rattle.socket_source.specs.Steps.{Given, may_come}
