@@ -15,11 +15,11 @@ standing_of s = record {
 }
 
 abbrev pub standing : {R : Type 0} → Sockets R → Standing
-standing s = standing_of s.open
+standing s = standing_of s.held
 
 -- the framings of the connections that are open
 abbrev pub framings_of : OpenSockets → ℕ → Option Framing
 framings_of s = framing_in s.connections.streams
 
 abbrev pub framings : {R : Type 0} → Sockets R → ℕ → Option Framing
-framings s = framings_of s.open
+framings s = framings_of s.held

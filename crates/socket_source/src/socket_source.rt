@@ -56,7 +56,7 @@ impl<'a, R: Net + Files + Clock> SocketSource<'a, R> {
         ensures { (⟦<SocketSource<'a, R> as ServerSource>⟧.state self.now).standing.listeners ≤ listener
             → result ≡ None }
     {
-        self.sockets.open.listeners.get(listener)?.local_addr()
+        self.sockets.held.listeners.get(listener)?.local_addr()
     }
 }
 

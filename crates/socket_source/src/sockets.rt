@@ -61,7 +61,7 @@ enum InputState {
 #[derive(Drop)]
 pub(crate) struct Sockets<'a, R> {
     rt: &'a R,
-    pub(crate) open: OpenSockets,
+    pub(crate) held: OpenSockets,
     events: Events,
     pub(crate) ready: ReadyQueue,
     // how many more steps before the system is asked again
@@ -89,18 +89,18 @@ impl<'a, R: Clock> Sockets<'a, R> {
 
     // The number of a connection's socket among all.
     fn socket_number(&self, conn: u32) -> usize {
-        listener_number(self.open.listeners.len()).saturating_add(conn as usize)
+        listener_number(self.held.listeners.len()).saturating_add(conn as usize)
     }
 
     // Has every listener tried again, if one waits for it.
     fn retry_listeners(&mut self)
         ensures standing { standing self.new ≡ standing self.old }
-        ensures stays { self.new.open ≡ self.old.open }
+        ensures stays { self.new.held ≡ self.old.held }
         ensures order { KeepsOrder 0 (line self.old) (line self.new) }
     {
         if self.later {
             self.later = false;
-            for listener in 0..self.open.listeners.len() {
+            for listener in 0..self.held.listeners.len() {
                 self.ready.push(listener_number(listener));
             }
         }
@@ -136,14 +136,14 @@ impl<'a, R: Clock> Sockets<'a, R> {
             (without_open conn (standing self.old).live) }
         ensures order { KeepsOrder 0 (line self.old) (line self.new) }
     {
-        self.open.close(conn);
+        self.held.close(conn);
         self.retry_listeners();
     }
 
     // Has the listeners tried again if a step has made room for a connection.
     fn use_room(&mut self, step: Option<ServerStep>)
         ensures standing { standing self.new ≡ standing self.old }
-        ensures stays { self.new.open ≡ self.old.open }
+        ensures stays { self.new.held ≡ self.old.held }
         ensures order { KeepsOrder 0 (line self.old) (line self.new) }
     {
         if let Some(ServerStep::Ended { .. }) = step {
@@ -154,7 +154,7 @@ impl<'a, R: Clock> Sockets<'a, R> {
     // A socket has had a step, and is tried again in time.
     fn settle(&mut self, number: usize, most: usize, retry: Retry)
         ensures standing { standing self.new ≡ standing self.old }
-        ensures stays { self.new.open ≡ self.old.open }
+        ensures stays { self.new.held ≡ self.old.held }
         ensures returns { Returns number (line self.old) (line self.new) }
     {
         match retry {
@@ -174,10 +174,10 @@ impl<'a, R: Clock> Sockets<'a, R> {
             self.sweeping_since = now;
             self.swept = 0;
         }
-        let silent = self.open.connections.find_idle(self.swept, now, idle);
+        let silent = self.held.connections.find_idle(self.swept, now, idle);
         self.swept = match silent {
             Some(conn) => conn as usize + 1,
-            None => self.open.connections.limit,
+            None => self.held.connections.limit,
         };
         silent
     }
@@ -191,7 +191,7 @@ impl<'a, R: Clock> Sockets<'a, R> {
     {
         let conn = self.find_silent(now)?;
         let number = self.socket_number(conn);
-        let taken = self.open.read(conn, true, now, buf);
+        let taken = self.held.read(conn, true, now, buf);
         if let Retry::Now = taken.retry {
             self.ready.push(number);
         }
@@ -214,7 +214,7 @@ impl<'a, R: Clock> Sockets<'a, R> {
         ensures lawful { IsLawful (standing self.old) (standing self.new) 0 result }
         ensures order { KeepsOrder 0 (line self.old) (line self.new) }
     {
-        match self.open.connections.find_idle(0, now, Duration::ZERO) {
+        match self.held.connections.find_idle(0, now, Duration::ZERO) {
             Some(conn) => self.end(conn, ConnectionEnd::Closed),
             None => ServerStep::Finished,
         }
@@ -240,7 +240,7 @@ impl<'a, R: Clock> Sockets<'a, R> {
     {
         let patience = self.patience(now);
         if self
-            .open
+            .held
             .poll
             .poll(&mut self.events, Some(patience))
             .is_err()
@@ -279,8 +279,8 @@ impl<'a, R: Clock> Sockets<'a, R> {
     {
         match number.checked_sub(1) {
             Some(socket) => {
-                let taken = self.open.take(socket, now, buf);
-                let most = self.open.steps_of(socket);
+                let taken = self.held.take(socket, now, buf);
+                let most = self.held.steps_of(socket);
                 self.settle(number, most, taken.retry);
                 self.use_room(taken.step);
                 taken.step
@@ -393,7 +393,7 @@ impl<'a, R: Net + Files + Clock> Sockets<'a, R> {
         let numbers = listener_number(bound.len()).saturating_add(limit);
         Ok(Sockets {
             rt,
-            open: OpenSockets {
+            held: OpenSockets {
                 poll,
                 listeners: bound,
                 connections: Connections::new(alloc, limit, options.per_peer, now)?,

@@ -8,6 +8,6 @@ use Rattle.socket_source.proofs.sockets.Sockets.retry_listeners.Given as goal
 abbrev pub invariant-loop-listener : goal.invariant-loop-listener
 invariant-loop-listener g l = record {
   standing : standing l.self ≡ standing l.fn.self;
-  stays : l.self.open ≡ l.fn.self.open;
+  stays : l.self.held ≡ l.fn.self.held;
   order : KeepsOrder 0 (line l.fn.self) (line l.self);
 }
