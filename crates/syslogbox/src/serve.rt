@@ -187,13 +187,16 @@ fn open_store(teller: Teller<'_, '_>, dir: &str) -> Result<(FolderLock, Keeper),
     let rt = teller.rt;
     let disk = match FolderDisk::create(rt, dir) {
         Ok(disk) => disk,
-        Err(error) => return Err(refuse_io(teller, dir, error)),
+        Err(fault) if fault.kind() == io::ErrorKind::OutOfMemory => {
+            return Err(teller.out_of_memory());
+        }
+        Err(fault) => return Err(teller.refuse(dir, fault)),
     };
     let lock = match FolderLock::take(rt, dir, LockFile::Writing) {
         Ok(lock) => lock,
         Err(LockFault::Held) => return Err(teller.refuse(dir, "another server has the store")),
-        Err(LockFault::Failed(error)) => {
-            return Err(refuse_file(teller, dir, LockFile::Writing.name(), error));
+        Err(LockFault::Failed(failed)) => {
+            return Err(refuse_file(teller, dir, LockFile::Writing.name(), failed.error));
         }
     };
     match DiskKeeper::open(rt.alloc(), SoundDisk { disk }) {
