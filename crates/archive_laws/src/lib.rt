@@ -20,4 +20,3 @@ pub use sets::{
 };
 pub use stores::same_records_have_one_text;
 pub use validation::archive_or_fault;
-

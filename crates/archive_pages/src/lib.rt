@@ -15,4 +15,3 @@ mod writing;
 
 pub use paged::PagedArchive;
 pub use reading::Place;
-

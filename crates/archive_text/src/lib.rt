@@ -18,4 +18,3 @@ pub use limits::ENTRY_MAX;
 pub use store::{AddFault, Added, Store};
 pub use validation::{entry_of_octets, read_entry};
 pub use writing::put_entry;
-

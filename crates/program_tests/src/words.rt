@@ -755,13 +755,7 @@ const REFUSED_SOCKETS: [(&[&str], &str); 14] = [
         "error: invalid value '3600001' for --commit: expected a number from 0 to 3600000\n",
     ),
     (
-        &[
-            "serve",
-            "d",
-            "--unix=p",
-            "--dialect=x",
-            "--checkpoint=2049",
-        ],
+        &["serve", "d", "--unix=p", "--dialect=x", "--checkpoint=2049"],
         "error: invalid value '2049' for --checkpoint: expected a number from 1 to 2048\n",
     ),
 ];

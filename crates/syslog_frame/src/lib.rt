@@ -34,4 +34,3 @@ pub use put::put_frame;
 pub use ready::Ready;
 pub use scanner::Scanner;
 pub use trim::{one_end_is_trimmed, trimmed};
-

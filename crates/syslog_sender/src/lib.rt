@@ -15,4 +15,3 @@ mod sender;
 pub use fault::SendFault;
 pub use law::{calls_have_one_output, calls_write_outputs, last_mask_is_in_force};
 pub use sender::Sender;
-
