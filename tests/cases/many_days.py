@@ -81,7 +81,7 @@ def alike(runs, days):
 
 def some_large(runs, days):
     """Some days have most octets: each gets a segment of its own, and the others share one."""
-    large = [of_day(number, 20_000) for number in range(0, days, days // 20)]
+    large = [of_day(number, 60_000) for number in range(0, days, days // 20)]
     small = [of_day(number) for number in range(1, days, 9) if number % (days // 20)]
     padding = [of_day(0, 19_000 + number) for number in range(60)]
     sent = [*large, *small, *padding]
@@ -92,8 +92,8 @@ def some_large(runs, days):
 
 def undated(runs):
     """What has no time counts as a day."""
-    sent = [b"<14>1 - - days - - - %d " % number + b"x" * 3_000 for number in range(400)]
-    sent += [of_day(number) for number in range(300)]
+    sent = [of_day(number) for number in range(300)]
+    sent += [b"<14>1 - - days - - - %d " % number + b"x" * 3_000 for number in range(400)]
     periods, _ = kept(runs, "undated", sent)
     runs.results.check("undated: its segments", {b"undated", b"mixed"} <= set(periods), str(periods))
 

@@ -91,8 +91,12 @@ class Folders:
 # ---------------------------------------------------------------- what is no file
 
 def bound(path):
+    """Binds a socket by its folder's descriptor, since a socket's path has few octets."""
+    folder = os.open(path.parent, os.O_RDONLY)
     with socket.socket(socket.AF_UNIX) as one:
-        one.bind(str(path))
+        one.bind(f"/proc/self/fd/{folder}/s")
+    os.rename(path.parent / "s", path)
+    os.close(folder)
 
 
 def intruders(folders):
@@ -185,9 +189,18 @@ def listed(store):
     return {one.name: (one.stat().st_uid, one.stat().st_mtime_ns, one.read_bytes()) for one in Path(store).iterdir()}
 
 
+def let_pass(path):
+    """Lets every user pass the folders above a path, as far as they are the caller's own."""
+    for folder in path.parents:
+        mode = folder.stat().st_mode
+        if mode & 0o011 != 0o011:
+            os.chmod(folder, mode | 0o011)
+
+
 def others_store(folders, program):
     """Root leaves another user's store as it is, and says how to run it; it may read it."""
     results, store = folders.results, folders.copy()
+    let_pass(store / "any")
     for one in [store, *store.iterdir()]:
         os.chown(one, OTHER, OTHER)
     own = {"user": OTHER, "group": OTHER, "extra_groups": [], "preexec_fn": None}
