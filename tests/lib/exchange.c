@@ -23,7 +23,8 @@ static void exchange(const char *path) {
 }
 
 static int opened(const char *name, const char *path, int flags, va_list rest) {
-  opening *next = (opening *)dlsym(RTLD_NEXT, name);
+  opening *next;
+  *(void **)&next = dlsym(RTLD_NEXT, name);
   exchange(path);
   return next(path, flags, flags & (O_CREAT | O_TMPFILE) ? va_arg(rest, mode_t) : 0);
 }
