@@ -19,15 +19,20 @@ fi
 if [ "$(cat release/KIT)" != "$(rt version)" ]; then
     end "not compared: it was proved by $(cat release/KIT), and this is $(rt version)" 0 0
 fi
-for name in syslogbox libsyslogbox fault_injection store_trial; do
+for name in syslogbox libsyslogbox; do
     [ -f "release/$name.o.gz" ] || end "FAILED: it lacks the object of $name" 0 1
+done
+programs=syslogbox
+# the programs that tests run may be left out of a release
+for name in fault_injection store_trial; do
+    if [ -f "release/$name.o.gz" ]; then programs="$programs $name"; else echo "release: it has no object of $name"; fi
 done
 sh scripts/unpack.sh || end "FAILED: its files are not those of its checksums" 0 1
 cd build/release
 for archive in libos_c.a liblibc_c.a; do
     cmp "$archive" "$kit/c/$archive" || end "FAILED: $archive is not the toolchain's" 0 1
 done
-for name in syslogbox fault_injection store_trial; do
+for name in $programs; do
     built=../../crates/$name/out/$name
     # the program, as rt links it, is there also where the object is not
     "$kit/bin/rattle-link" --target x86_64-unknown-linux-gnu --toolchain "$kit/toolchain" \

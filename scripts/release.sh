@@ -6,12 +6,15 @@ cd "$(dirname "$0")/.."
 made=build/proved
 kit=$(dirname "$(rt doc)")
 sources=$(sh scripts/sources.sh)
-names="syslogbox libsyslogbox fault_injection store_trial"
-for name in $names; do
-    if [ "$(cat "$made/$name.of" 2> /dev/null)" != "$sources $(rt version)" ]; then
-        echo "No object of $name is built of these sources by this toolchain: 'make check' or 'make proved' does." >&2
-        exit 1
+names=
+for name in syslogbox libsyslogbox fault_injection store_trial; do
+    if [ "$(cat "$made/$name.of" 2> /dev/null)" = "$sources $(rt version)" ]; then
+        names="$names $name"
+        continue
     fi
+    echo "No object of $name is built of these sources by this toolchain: 'make check' or 'make proved' does." >&2
+    # a release may lack the programs that tests run
+    case $name in syslogbox | libsyslogbox) exit 1 ;; esac
 done
 mkdir -p release
 rm -f release/*.o.gz

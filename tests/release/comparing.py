@@ -55,17 +55,18 @@ def built_alike(folder, name, made):
 
 
 def programs_of_tests(folder, results):
-    """Each program of the tests is compared, and has to be in the release."""
+    """Each program of the tests is compared, and one whose checksum is there has to be in the release."""
     for name in OF_TESTS:
         for file, text in [(folder / f"crates/{name}/out/{name}.o", "object of"), (folder / f"crates/{name}/out/{name}", "program"),
-                           (folder / f"release/{name}.o.gz", "lacks the object of")]:
+                           (folder / f"release/{name}.o.gz", "lacks")]:
             octets = file.read_bytes()
-            if text.startswith("lacks"):
+            if text == "lacks":
                 file.unlink()
             else:
                 file.write_bytes(with_octet(octets, len(octets) // 2))
             status, _, said = compare(folder)
-            results.check(f"a release is compared: {text} {name}", status == 1 and f"{text} {name}" in said, said)
+            told = "its checksums" if text == "lacks" else f"{text} {name}"
+            results.check(f"a release is compared: {text} {name}", status == 1 and told in said, said)
             file.write_bytes(octets)
 
 
