@@ -25,7 +25,13 @@ done
 programs=syslogbox
 # the programs that tests run may be left out of a release
 for name in fault_injection store_trial; do
-    if [ -f "release/$name.o.gz" ]; then programs="$programs $name"; else echo "release: it has no object of $name"; fi
+    if [ -f "release/$name.o.gz" ]; then
+        programs="$programs $name"
+    elif grep -q " $name.o\$" release/SHA256SUMS; then
+        end "FAILED: its files are not those of its checksums" 0 1
+    else
+        echo "release: it has no object of $name"
+    fi
 done
 sh scripts/unpack.sh || end "FAILED: its files are not those of its checksums" 0 1
 cd build/release

@@ -9,7 +9,6 @@ if [ "$machine" != "Linux x86_64" ]; then
     exit 1
 fi
 mkdir -p build/release
-rm -f build/release/*.o
 for packed in release/*.o.gz; do
     object=${packed#release/}
     gzip -dc "$packed" > "build/release/${object%.gz}"
