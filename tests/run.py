@@ -33,10 +33,10 @@ from lib.side_by_side import Parts, cores, python
 
 # the parts that run side by side, those that take longest first; each is a module of cases/ with a function of its name
 SIDE_BY_SIDE = ["stores", "libraries", "algebra", "mutated", "serving", "legacy", "bindings", "commands", "verdicts", "archives",
-                "unsafe_folders", "damaged_segments", "many_days", "full_pipes", "colliding_ids", "notes_pace", "sending", "collect",
+                "unsafe_folders", "damaged_segments", "many_days", "full_pipes", "notes_pace", "sending", "collect",
                 "spilling", "documents", "sockets", "descriptors", "costs", "auditing"]
-# these run after the others, one after the other: `soak` takes all cores itself, and `noisy_senders` measures
-AT_THE_END = ["soak", "noisy_senders"]
+# these run after the others, one after the other: `soak` takes all cores itself, the others measure
+AT_THE_END = ["soak", "colliding_ids", "noisy_senders"]
 MODULES = {"soak": "hostile.soak"}
 PARTS = SIDE_BY_SIDE + AT_THE_END
 ALONE = {"soak": "hostile.soak", "algebra": "hostile.archives", "stores": "hostile.stores", "clients": "hostile.clients",

@@ -21,7 +21,7 @@ ROOM = 8192  # places of a table for 4,097 to 16,384 octets
 WINDOW = 135  # ids that have one place
 STREAM = 3_000_000  # octets of a run that is timed
 RUNS = 12
-MOST = 16  # times what an octet of a plain record costs
+MOST = 10  # times what an octet of a plain record costs
 BOTH = 16  # the same where many ids follow those that a table cannot tell apart, and all are sorted
 STACK = 1024 * 1024
 
@@ -161,9 +161,10 @@ def on_stack(program, results):
         seen = program.run(words, whole + b"\n", preexec_fn=on_little_stack)
         results.same(f"a little stack: {command} the most ids", seen, program.run(words, whole + b"\n"))
     names = most(ENTRY_MAX - len(FRONT) - 40)
-    old = program.folder.file("old", counted([FRONT + data(names)]))
+    canonical = FRONT.replace(b".003Z", b".003000Z")
+    old = program.folder.file("old", counted([canonical + data(names)]))
     seen = program.run(["migrate", old], preexec_fn=on_little_stack)
-    results.check("a little stack: the entry with the most ids", seen[0] in (0, 1) and seen == program.run(["migrate", old]), str(seen)[:300])
+    results.check("a little stack: the entry with the most ids", seen[0] == 0 and seen == program.run(["migrate", old]), str(seen)[:300])
     bad = program.folder.file("bad", counted([repeated(names)[0]]))
     seen = program.run(["merge", bad, bad], preexec_fn=on_little_stack)
     results.check("a little stack: the entry with the most ids, one repeated", seen[0] == 1 and seen == program.run(["merge", bad, bad]), str(seen)[:300])

@@ -22,7 +22,7 @@ MANY = 1, 32
 SECONDS = 1.6  # of the good sender, in each run
 PACE = 0.001  # seconds from one datagram to the next
 PERIOD = 0.05  # seconds of a commit
-LATE = 0.4  # seconds more, on a machine that other work has too
+LATE = 0.1  # seconds more
 HALF = b"200000 " + b"<14>1 - - - - - - " + b"a" * 90_000
 ROOM = 262_144
 
