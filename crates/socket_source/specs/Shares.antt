@@ -7,8 +7,8 @@ use Rattle.socket_source.specs.declared.share.Share.{Share}
 -- One turn has so many of something: no more than a turn may ever have; and if each of those that are ready has as many, all of them
 -- together have no more than a round, unless each has no more than it may in any case.
 pub record IsPart (most least round ready n : ℕ) : Type 0 where
-  pub most : n ≤ most
-  pub round : (n ≤ least) ⊎ (n * ready ≤ round)
+  pub within : n ≤ most
+  pub together : (n ≤ least) ⊎ (n * ready ≤ round)
 
 abbrev pub IsPartOfOctets : ℕ → ℕ → Type 0
 IsPartOfOctets ready n = IsPart TURN_OCTETS LEAST_OCTETS ROUND_OCTETS ready n

@@ -15,6 +15,7 @@ pub(crate) struct Share {
 impl Share {
     /// The share of each of so many sockets that are ready: a round of all of them has an end soon,
     /// however many they are.
+    #[tactic(auto, using(crate::proofs::Shares::part_divided))]
     pub(crate) fn of(ready: usize) -> Share
         ensures share { IsShareOf ready result }
         ensures least { Leaves result }

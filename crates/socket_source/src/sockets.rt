@@ -151,11 +151,12 @@ impl<'a, R: Clock> Sockets<'a, R> {
     }
 
     // Has the listeners tried again if a step has made room for a connection.
+    #[tactic(auto, using(crate::proofs::Shares::if_piece_always))]
     fn use_room(&mut self, step: Option<ServerStep>)
         ensures standing { standing self.new ≡ standing self.old }
         ensures stays { self.new.held ≡ self.old.held }
         ensures order { KeepsOrder 0 (line self.old) (line self.new) }
-        ensures ready { IfSome step (IfPiece (λ conn len. self.new.ready ≡ self.old.ready)) }
+        ensures longer { IfSome step (IfPiece (λ conn len. length (line self.new) ≤ length (line self.old))) }
     {
         if let Some(ServerStep::Ended { .. }) = step {
             self.retry_listeners();
@@ -173,6 +174,18 @@ impl<'a, R: Clock> Sockets<'a, R> {
             Retry::Reported => {}
             Retry::Now => self.ready.stay(number, most),
             Retry::Later => self.later = true,
+        }
+    }
+
+    // A socket that has something left waits for its turn.
+    fn queue(&mut self, number: usize, retry: Retry)
+        ensures standing { standing self.new ≡ standing self.old }
+        ensures stays { self.new.held ≡ self.old.held }
+        ensures order { KeepsOrder 0 (line self.old) (line self.new) }
+        ensures longer { length (line self.new) ≤ length (line self.old) + 1 }
+    {
+        if let Retry::Now = retry {
+            self.ready.push(number);
         }
     }
 
@@ -205,9 +218,7 @@ impl<'a, R: Clock> Sockets<'a, R> {
         let number = self.socket_number(conn);
         let share = self.share();
         let taken = self.held.read(conn, true, share, now, buf);
-        if let Retry::Now = taken.retry {
-            self.ready.push(number);
-        }
+        self.queue(number, taken.retry);
         self.use_room(taken.step);
         taken.step
     }
