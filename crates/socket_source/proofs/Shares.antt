@@ -1,6 +1,6 @@
 -- The share of each socket.
 use Rattle.std.proofs.Common.{◌≡◌, ℕ, List, ◌⊎◌, ◌≤◌, inl, inr, subst, sym, arith}
-use Rattle.std.specs.Prelude.{Option, Some, None, ◌*◌, ◌/◌, IfSome}
+use Rattle.std.specs.Prelude.{Option, Some, None, ◌/◌, IfSome}
 use Rattle.std.proofs.Math.Nat.{div-mul-le_self, mul-le-mul}
 use Rattle.syslog_frame.specs.declared.framing.Framing.{Framing}
 use Rattle.socket_source.specs.Shares.{IsPart, IsPartOfFrames, IsShareOf}
@@ -27,12 +27,12 @@ part_divided most least round ready parts n within fewer (inr part) = record {
 pub part_of_less : (most least round ready fewer n less : ℕ) → fewer ≤ ready → less ≤ n → IsPart most least round ready n
     → IsPart most least round fewer less
 part_of_less most least round ready fewer n less is_fewer is_less part = elim part.together [
-    | inl few ↦ record { within = omega (arith, part.within); together = inl (omega (arith, few)) }
-    | inr all ↦ record {
-      within = omega (arith, part.within);
-      together = inr (omega (arith, mul-le-mul is_less is_fewer, all));
-    }
-  ]
+  | inl few ↦ record { within = omega (arith, part.within); together = inl (omega (arith, few)) }
+  | inr all ↦ record {
+    within = omega (arith, part.within);
+    together = inr (omega (arith, mul-le-mul is_less is_fewer, all));
+  }
+]
 
 pub if_some_implies : {X : Type 0} (P Q : X → Type 0) → ((x : X) → P x → Q x) → (o : Option X) → IfSome o P → IfSome o Q
 if_some_implies P Q implies None holds = holds
@@ -46,9 +46,9 @@ bounded_in_share share ready some fewer framings octets None is within few still
 bounded_in_share share ready some fewer framings octets (Some (Piece conn len)) is within few still = (
   part_of_less TURN_OCTETS LEAST_OCTETS ROUND_OCTETS ready fewer share.octets len (omega (arith, few, still)) within.0 is.octets,
   if_some_implies (λ framing. marks framing octets len ≤ share.frames)
-  (λ framing. IsPartOfFrames fewer (marks framing octets len))
-  (λ framing less. part_of_less TURN_FRAMES LEAST_FRAMES ROUND_FRAMES ready fewer share.frames (marks framing octets len)
-  (omega (arith, few, still)) less is.frames) (framings conn) within.1,
+      (λ framing. IsPartOfFrames fewer (marks framing octets len))
+      (λ framing less. part_of_less TURN_FRAMES LEAST_FRAMES ROUND_FRAMES ready fewer share.frames (marks framing octets len)
+      (omega (arith, few, still)) less is.frames) (framings conn) within.1,
 )
 bounded_in_share share ready some fewer framings octets (Some (Opened conn listener framing peer)) is within few still = tt
 bounded_in_share share ready some fewer framings octets (Some (Ended conn end)) is within few still = tt

@@ -58,4 +58,4 @@ IsWithinShare share framings octets =
 abbrev pub IsBounded : ℕ → (ℕ → Option Framing) → List ℕ → ServerStep → Type 0
 IsBounded ready framings octets =
     IfPiece (λ conn len. IsPartOfOctets ready len
-        × IfSome (framings conn) (λ framing. IsPartOfFrames ready (marks framing octets len)))
+    × IfSome (framings conn) (λ framing. IsPartOfFrames ready (marks framing octets len)))
