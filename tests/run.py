@@ -40,7 +40,7 @@ AT_THE_END = ["soak", "colliding_ids", "noisy_senders"]
 MODULES = {"soak": "hostile.soak"}
 PARTS = SIDE_BY_SIDE + AT_THE_END
 ALONE = {"soak": "hostile.soak", "algebra": "hostile.archives", "stores": "hostile.stores", "clients": "hostile.clients",
-         "mutants": "mutants.run", "senders": "peers.senders", "load": "peers.load", "cluster": "peers.cluster",
+         "mutants": "mutants.run", "noisy": "cases.noisy_senders", "senders": "peers.senders", "load": "peers.load", "cluster": "peers.cluster",
          "serve-clients": "peers.serve_clients", "serve-soak": "peers.serve_soak", "serve-load": "peers.serve_load"}
 
 

@@ -1,33 +1,57 @@
 """`serve` with noisy senders beside a good one: no datagram of the good one is lost, and each record is committed in time. And
 what a socket has of its own: room, a port, a place among the connections, a mode.
 
-The noise comes from another address of the loopback, and from a process of its own. What is committed is what `read` shows: one
-that begins a period and 0.1 seconds after a record was sent has to have it.
+The noise comes from other addresses of the loopback, and from processes of their own, which send without waiting. When a record is
+committed is seen in the journal, whose batches are opened once they are on the disk.
+
+Usage: tests/run.py noisy PROGRAM [--seconds N] [--folder FOLDER] [KIND..]
+
+It prints a table: beside so many noisy connections of each kind, how long records waited until they were committed.
 """
 import multiprocessing
 import os
+import re
 import resource
 import selectors
 import socket
+import sys
 import tempfile
 import threading
 import time
+from datetime import date, timedelta
+from pathlib import Path
 
 from lib.loopback import HERE
-from lib.reference import counted_frames
+from lib.program import Program
+from lib.reference import counted, counted_frames
+from lib.results import Results
 from lib.server import Runs, any_port, reset, until, until_closed
+from lib.store_format import HEAD, OPEN
 
 ELSEWHERE = "127.0.0.2"
-MANY = 1, 32
+SOURCES = [f"127.0.0.{2 + n}" for n in range(8)]  # of the noise
+MANY = 1, 32, 1_024
+OF_ONE = 512  # connections of a process that makes noise
+DESCRIPTORS = 64  # that a process has besides
 SECONDS = 1.6  # of the good sender, in each run
 PACE = 0.001  # seconds from one datagram to the next
+SELDOM = 0.01  # seconds from one record of the connection to the next
+LOOK = 0.001  # seconds from one look at the journal to the next
 PERIOD = 0.05  # seconds of a commit
 LATE = 0.1  # seconds more
+NEVER = 3.0  # seconds after which a record that is not committed is lost
 HALF = b"200000 " + b"<14>1 - - - - - - " + b"a" * 90_000
 ROOM = 262_144
+GOOD = re.compile(rb"<14>1 - h good - - - ((?:datagram|stream) \d+;)")
 
 
 # ---------------------------------------------------------------- noise
+
+def many_days():
+    """Frames of records of other days each."""
+    days = (date(1980, 1, 1) + timedelta(n) for n in range(15_000))
+    return counted([b"<14>1 %bT12:00:00.000000Z - noise - - - x" % str(day).encode() for day in days])
+
 
 class Noise:
     """Connections that make noise until the process is stopped. A kind has a listener, what it sends, and whether it sends that
@@ -35,15 +59,16 @@ class Noise:
 
     def __init__(self, address, count, octets, goes_on, last):
         self.address, self.count, self.octets, self.goes_on, self.last = address, count, octets, goes_on, last
-        self.poll, self.left = selectors.DefaultSelector(), {}
+        self.poll, self.left, self.begun = selectors.DefaultSelector(), {}, 0
 
     def begin(self):
         one = socket.socket()
         one.setsockopt(socket.SOL_SOCKET, socket.SO_REUSEADDR, 1)
-        one.bind((ELSEWHERE, 0))
+        one.bind((SOURCES[self.begun % len(SOURCES)], 0))
         one.setblocking(False)
         one.connect_ex(self.address)
-        self.left[one] = self.octets
+        self.begun += 1
+        self.left[one] = memoryview(self.octets)
         self.poll.register(one, selectors.EVENT_WRITE | selectors.EVENT_READ)
 
     def finish(self, one):
@@ -65,7 +90,7 @@ class Noise:
         if self.left[one]:
             return None
         if self.goes_on:
-            self.left[one] = self.octets
+            self.left[one] = memoryview(self.octets)
         elif self.last is reset:
             self.finish(one)
         else:
@@ -83,11 +108,18 @@ class Noise:
 
 KINDS = {
     "only line feeds": ("lf", b"\n" * ROOM, True, socket.socket.close),
-    "half frames": ("counted", HALF, False, socket.socket.close),
+    "many days": ("counted", many_days(), True, socket.socket.close),
     "wrong counts": ("counted", b"x1 ", False, socket.socket.close),
     "resets": ("lf", b"half a line", False, reset),
     "silence": ("counted", b"1", False, socket.socket.close),
+    "half frames": ("counted", HALF, False, socket.socket.close),
 }
+
+
+def forked(target, *words):
+    process = multiprocessing.get_context("fork").Process(target=target, args=words, daemon=True)
+    process.start()
+    return process
 
 
 class Beside:
@@ -95,24 +127,30 @@ class Beside:
 
     def __init__(self, server, kind, count):
         listener, *how = KINDS[kind]
-        begun = multiprocessing.Event()
-        noise = Noise(server.address(listener), count, *how)
-        self.process = multiprocessing.get_context("fork").Process(target=noise.run, args=(begun,), daemon=True)
-        self.process.start()
-        begun.wait(5)
+        address, self.processes = server.address(listener), []
+        for first in range(0, count, OF_ONE):
+            begun = multiprocessing.Event()
+            noise = Noise(address, min(OF_ONE, count - first), *how)
+            self.processes.append(forked(noise.run, begun))
+            begun.wait(5)
 
     def __enter__(self):
         return self
 
     def __exit__(self, *_):
-        self.process.kill()
-        self.process.join()
+        for process in self.processes:
+            process.kill()
+            process.join()
 
 
 # ---------------------------------------------------------------- the good sender
 
+def text_of(kind, number):
+    return b"%s %d;" % (kind, number)
+
+
 def record(kind, number):
-    return b"<14>1 - h good - - - %s %d" % (kind, number)
+    return b"<14>1 - h good - - - " + text_of(kind, number)
 
 
 def held(server, seen):
@@ -121,49 +159,104 @@ def held(server, seen):
     return seen
 
 
-def sent_at_pace(one, count):
-    """Sends datagrams at a pace; gives when each was sent."""
+class Journal:
+    """The good records of a store's journals, and when each was seen to be committed."""
+
+    def __init__(self, store):
+        self.store, self.number, self.at, self.seen = Path(store), 1, 0, {}
+        self.file = os.open(self.store / "journal.1", os.O_RDONLY)
+
+    def next_batch(self):
+        """The next batch that is open, if there is one."""
+        head = os.pread(self.file, HEAD, self.at)
+        if len(head) < HEAD or head[0] != OPEN:
+            return None
+        size = int.from_bytes(head[1:], "little")
+        body = os.pread(self.file, size, self.at + HEAD)
+        self.at += HEAD + size
+        return body
+
+    def turn(self):
+        """Goes on with the next journal, if there is one."""
+        try:
+            newer = os.open(self.store / f"journal.{self.number + 1}", os.O_RDONLY)
+        except FileNotFoundError:
+            return
+        os.close(self.file)
+        self.file, self.number, self.at = newer, self.number + 1, 0
+
+    def look(self):
+        while (body := self.next_batch()) is not None:
+            now = time.monotonic()
+            for text in GOOD.findall(body):
+                self.seen.setdefault(text, now)
+
+    def watch(self, sent, answer):
+        """Looks until it is told what was sent, and all of that has been seen or is lost."""
+        wanted, late, round_ = None, 0, 0
+        while wanted is None or (time.monotonic() < late and not wanted <= self.seen.keys()):
+            self.look()
+            round_ += 1
+            if round_ % 50 == 0:
+                self.turn()
+            if wanted is None and sent.poll():
+                wanted, late = sent.recv(), time.monotonic() + NEVER
+            time.sleep(LOOK)
+        answer.send(self.seen)
+
+
+def at_pace(send, pace, seconds):
+    """Sends one after the other at a pace; gives when each was sent."""
     begun, times = time.monotonic(), []
-    for n in range(count):
-        time.sleep(max(0, begun + n * PACE - time.monotonic()))
-        one.send(record(b"datagram", n))
+    for n in range(int(seconds / pace)):
+        time.sleep(max(0, begun + n * pace - time.monotonic()))
         times.append(time.monotonic())
+        send(n)
     return times
 
 
-def good_sender(server, connection, results, name):
-    """Sends datagrams at a pace, and a record on a connection in the middle, and looks when they are committed."""
-    pipe, other = multiprocessing.Pipe()
-    count = int(SECONDS / PACE)
-    with server.open("udp", HERE) as datagrams:
-        child = multiprocessing.get_context("fork").Process(
-            target=lambda: other.send(sent_at_pace(datagrams, count)), daemon=True)
-        child.start()
-        late = [late_record(server, connection, n) for n in range(4)]
-        times = pipe.recv()
-        child.join()
-    time.sleep(max(0, times[-1] + PERIOD + LATE - time.monotonic()))
-    seen = held(server, set())
-    lost = [n for n in range(count) if record(b"datagram", n) not in seen]
-    results.check(f"{name}: each record of a connection is committed in time", not any(late), str(late))
-    results.check(f"{name}: each datagram is committed in time", not lost, f"{len(lost)} of {count} from {lost[:1]} on")
+def good_sender(server, connection, seconds):
+    """Sends datagrams and records of a connection at their paces. Gives how long each kind waited until it was committed; None is
+    one that was lost."""
+    results, result = multiprocessing.Pipe(False)
+    told, tell = multiprocessing.Pipe(False)
+    seen, answer = multiprocessing.Pipe(False)
+    watcher = forked(Journal(server.store).watch, told, answer)
+    with server.open("udp", HERE) as one:
+        sender = forked(lambda: result.send(at_pace(lambda n: one.send(record(b"datagram", n)), PACE, seconds)))
+        streams = at_pace(lambda n: connection.sendall(record(b"stream", n) + b"\n"), SELDOM, seconds)
+        sent = {b"datagram": results.recv(), b"stream": streams}
+    tell.send({text_of(kind, n) for kind, times in sent.items() for n in range(len(times))})
+    at = seen.recv()
+    sender.join()
+    watcher.join()
+    return {kind: [at[text_of(kind, n)] - time_ if text_of(kind, n) in at else None for n, time_ in enumerate(times)]
+            for kind, times in sent.items()}
 
 
-def late_record(server, connection, number):
-    """Sends a record on a connection; whether a `read` that begins when it has to be committed lacks it."""
-    connection.sendall(record(b"stream", number) + b"\n")
-    time.sleep(PERIOD + LATE)
-    return record(b"stream", number) not in held(server, set())
-
-
-def beside(runs, kind, count):
-    name = f"{count} of {kind}"
-    words = [*any_port("udp"), *any_port("counted"), *any_port("lf"), "--commit", round(1_000 * PERIOD), "--connections", 1_024]
+def waits_beside(runs, kind, count, seconds):
+    """How long records of a good sender wait beside noise of a kind."""
+    words = [*any_port("udp"), *any_port("counted"), *any_port("lf"), "--commit", round(1_000 * PERIOD), "--connections", 2_048]
     with runs.server(*words) as server, server.open("lf", HERE) as connection:
         connection.sendall(record(b"stream", -1) + b"\n")
         until(lambda: record(b"stream", -1) in held(server, set()))
         with Beside(server, kind, count):
-            good_sender(server, connection, runs.results, name)
+            return good_sender(server, connection, seconds)
+
+
+def in_order(waits):
+    """The waits of those that were not lost, the shortest first."""
+    return sorted(one for one in waits if one is not None)
+
+
+def beside(runs, kind, count):
+    name = f"{count} of {kind}"
+    for what, waits in waits_beside(runs, kind, count, SECONDS).items():
+        late = [n for n, one in enumerate(waits) if one is None or one > PERIOD + LATE]
+        lost = waits.count(None)
+        longest = in_order(waits)[-1:]
+        runs.results.check(f"{name}: each {what.decode()} is committed in time", not late,
+                           f"{len(late)} of {len(waits)} are late, {lost} lost; the longest wait {longest}")
 
 
 def buffer_that_is_larger(runs):
@@ -260,19 +353,69 @@ def mode_before_its_name(runs):
 FEW = [buffer_that_is_larger, socket_without_a_port, silence_while_stopped, places, mode_before_its_name]
 
 
-def noisy_senders(program, results):
+def may_be_open():
+    """How many connections of noise the limit on descriptors lets the server and the processes have."""
+    hard = resource.getrlimit(resource.RLIMIT_NOFILE)[1]
+    return [count for count in MANY if hard == resource.RLIM_INFINITY or count + DESCRIPTORS <= hard]
+
+
+def with_descriptors(run):
+    """Runs with as many descriptors as there may be."""
     soft, hard = resource.getrlimit(resource.RLIMIT_NOFILE)
     resource.setrlimit(resource.RLIMIT_NOFILE, (hard, hard))
     try:
-        for test in FEW:
-            with tempfile.TemporaryDirectory() as path:
-                try:
-                    test(Runs(program, results, path))
-                except Exception as error:  # a server that has ended too early
-                    results.check(f"{test.__name__}: it comes to its end", False, repr(error))
-        for kind in KINDS:
-            for count in MANY:
-                with tempfile.TemporaryDirectory() as path:
-                    beside(Runs(program, results, path), kind, count)
+        return run()
     finally:
         resource.setrlimit(resource.RLIMIT_NOFILE, (soft, hard))
+
+
+def try_all(program, results):
+    for test in FEW:
+        with tempfile.TemporaryDirectory() as path:
+            try:
+                test(Runs(program, results, path))
+            except Exception as error:  # a server that has ended too early
+                results.check(f"{test.__name__}: it comes to its end", False, repr(error))
+    for kind in KINDS:
+        for count in may_be_open():
+            with tempfile.TemporaryDirectory() as path:
+                beside(Runs(program, results, path), kind, count)
+
+
+def noisy_senders(program, results):
+    with_descriptors(lambda: try_all(program, results))
+
+
+# ---------------------------------------------------------------- the table
+
+def millis(waits, share):
+    ordered = in_order(waits)
+    return f"{1_000 * ordered[min(len(ordered) - 1, int(share * len(ordered)))]:.0f}" if ordered else "-"
+
+
+def row(kind, count, waits):
+    cells = [f"{millis(one, 0.99)}, {millis(one, 1)}" for one in waits.values()]
+    lost = sum(one.count(None) for one in waits.values())
+    return f"| {kind} | {count:,} | {' | '.join(cells)} | {lost} |"
+
+
+def table(program, kinds, seconds, folder):
+    print("| Noise | Connections | Datagrams | Records of a connection | Lost |\n|---|---|---|---|---|", flush=True)
+    for kind in kinds:
+        for count in may_be_open():
+            with tempfile.TemporaryDirectory(dir=folder) as path:
+                print(row(kind, count, waits_beside(Runs(program, Results(), path), kind, count, seconds)), flush=True)
+
+
+def main(words):
+    words, options = list(words), {"--seconds": str(SECONDS), "--folder": None}
+    for name in options:
+        if name in words:
+            at = words.index(name)
+            options[name] = words[at + 1]
+            del words[at:at + 2]
+    if not words or not set(words[1:]) <= set(KINDS):
+        print(__doc__, f"The kinds are {', '.join(KINDS)}.", file=sys.stderr)
+        return 2
+    with_descriptors(lambda: table(Program(words[0]), words[1:] or KINDS, float(options["--seconds"]), options["--folder"]))
+    return 0

@@ -3,3 +3,4 @@ pub mod Listing
 pub mod Stays
 pub mod Orders
 pub mod Places
+pub mod Shares

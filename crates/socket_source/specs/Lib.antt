@@ -5,6 +5,7 @@ pub mod Sockets
 pub mod Standings
 pub mod Waiting
 pub mod Opens
+pub mod Shares
 pub mod Turns
 pub mod Framings
 pub mod Lines

@@ -4,9 +4,10 @@ use Rattle.std.specs.Char.{is_ascii_digit}
 use Rattle.std.specs.Prelude.{Option, IfSome}
 use Rattle.syslog_frame.specs.declared.framing.Framing.{Framing}
 use Rattle.syslog_frame.specs.declared.framing.Framing.TheVariants.{Counted, Lf}
-use Rattle.socket_source.specs.declared.limits.TheConstants.{TURN_FRAMES, TURN_OCTETS}
+use Rattle.socket_source.specs.Shares.{IsPartOfFrames, IsPartOfOctets}
 use Rattle.socket_source.specs.declared.refusal.Reading.{Reading}
 use Rattle.socket_source.specs.declared.refusal.Reading.TheVariants as reading
+use Rattle.socket_source.specs.declared.share.Share.{Share}
 use Rattle.socket_source.specs.declared.step.ServerStep.{ServerStep}
 use Rattle.socket_source.specs.declared.step.ServerStep.TheVariants.{Opened, Piece, Ended, Datagram, TurnedAway}
 use Rattle.socket_source.specs.declared.step.ServerStep.TheVariants.{Tick, InputEnded, Finished, Failed}
@@ -23,28 +24,38 @@ marks framing octets zero = 0
 marks framing octets (suc n) = marks framing octets n + (if is_mark framing octets n then 1 else 0)
 
 -- so many of some first octets are given: all, or those up to the last mark that a turn may have
-pub record IsFront (framing : Framing) (octets : List ℕ) (len front : ℕ) : Type 0 where
+pub record IsFront (framing : Framing) (octets : List ℕ) (most len front : ℕ) : Type 0 where
   pub within : front ≤ len
-  pub few : marks framing octets front ≤ TURN_FRAMES
-  pub most : (front ≡ len) ⊎ (marks framing octets front ≡ TURN_FRAMES)
-  pub least : (n : ℕ) → n < front → marks framing octets n < TURN_FRAMES
+  pub few : marks framing octets front ≤ most
+  pub full : (front ≡ len) ⊎ (marks framing octets front ≡ most)
+  pub least : (n : ℕ) → n < front → marks framing octets n < most
 
--- a read gives no more than a turn may
-abbrev pub ReadsFront : Framing → List ℕ → Reading → Type 0
-ReadsFront framing octets (reading.Piece len) = (len ≤ TURN_OCTETS) × (marks framing octets len ≤ TURN_FRAMES)
-ReadsFront framing octets (reading.Ended end) = Unit {0}
-ReadsFront framing octets reading.Dry = Unit {0}
-ReadsFront framing octets reading.Again = Unit {0}
+-- a read gives no more than its share
+abbrev pub ReadsFront : Share → Framing → List ℕ → Reading → Type 0
+ReadsFront share framing octets (reading.Piece len) = (len ≤ share.octets) × (marks framing octets len ≤ share.frames)
+ReadsFront share framing octets (reading.Ended end) = Unit {0}
+ReadsFront share framing octets reading.Dry = Unit {0}
+ReadsFront share framing octets reading.Again = Unit {0}
 
--- a step gives no more octets of a connection than a turn may, where these are the framings of those that are open
-abbrev pub IsBounded : (ℕ → Option Framing) → List ℕ → ServerStep → Type 0
-IsBounded framings octets (Opened conn listener framing peer) = Unit {0}
-IsBounded framings octets (Piece conn len) =
-    (len ≤ TURN_OCTETS) × IfSome (framings conn) (λ framing. marks framing octets len ≤ TURN_FRAMES)
-IsBounded framings octets (Ended conn end) = Unit {0}
-IsBounded framings octets (Datagram listener peer len) = Unit {0}
-IsBounded framings octets (TurnedAway listener framing peer) = Unit {0}
-IsBounded framings octets Tick = Unit {0}
-IsBounded framings octets InputEnded = Unit {0}
-IsBounded framings octets Finished = Unit {0}
-IsBounded framings octets (Failed fault) = Unit {0}
+-- so it is, if the step gives octets of a connection
+abbrev pub IfPiece : (ℕ → ℕ → Type 0) → ServerStep → Type 0
+IfPiece P (Opened conn listener framing peer) = Unit {0}
+IfPiece P (Piece conn len) = P conn len
+IfPiece P (Ended conn end) = Unit {0}
+IfPiece P (Datagram listener peer len) = Unit {0}
+IfPiece P (TurnedAway listener framing peer) = Unit {0}
+IfPiece P Tick = Unit {0}
+IfPiece P InputEnded = Unit {0}
+IfPiece P Finished = Unit {0}
+IfPiece P (Failed fault) = Unit {0}
+
+-- a step gives no more octets of a connection than a share, where these are the framings of those that are open
+abbrev pub IsWithinShare : Share → (ℕ → Option Framing) → List ℕ → ServerStep → Type 0
+IsWithinShare share framings octets =
+    IfPiece (λ conn len. (len ≤ share.octets) × IfSome (framings conn) (λ framing. marks framing octets len ≤ share.frames))
+
+-- a step gives no more octets of a connection than its part of a round, where so many sockets are ready
+abbrev pub IsBounded : ℕ → (ℕ → Option Framing) → List ℕ → ServerStep → Type 0
+IsBounded ready framings octets =
+    IfPiece (λ conn len. IsPartOfOctets ready len
+    × IfSome (framings conn) (λ framing. IsPartOfFrames ready (marks framing octets len)))

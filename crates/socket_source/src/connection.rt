@@ -1,11 +1,11 @@
 //! A connection that is open.
-ghost use Rattle.std.specs.Prelude.{◌≤◌, length, IfOk};
+ghost use Rattle.std.specs.Prelude.{◌<◌, ◌≤◌, length, IfOk};
 ghost use Rattle.socket_source.specs.Sockets.{ReadsWithin};
 ghost use Rattle.socket_source.specs.Turns.{ReadsFront};
 
 use crate::front::front_len;
-use crate::limits::TURN_OCTETS;
 use crate::refusal::{Reading, reading_of, refusal_of};
+use crate::share::Share;
 use mio::net::TcpStream;
 use std::io::{self, Read};
 use syslog_frame::Framing;
@@ -47,16 +47,17 @@ fn take(mut stream: &TcpStream, buf: &mut [u8]) -> Reading
 }
 
 impl Connection {
-    /// Reads what one turn gives into the front of a slice; what else waits stays in the system's
-    /// buffer. What is read is read again into `spent`, and so taken from there.
-    pub(crate) fn read(&self, buf: &mut [u8], spent: &mut [u8]) -> Reading
+    /// Reads a share of what waits into the front of a slice; the rest stays in the system's buffer.
+    /// What is read is read again into `spent`, and so taken from there.
+    pub(crate) fn read(&self, share: Share, buf: &mut [u8], spent: &mut [u8]) -> Reading
+        requires { 0 < share.frames }
         ensures within { ReadsWithin (length buf.new) result }
-        ensures bounded { ReadsFront self.now.framing buf.new result }
+        ensures bounded { ReadsFront share self.now.framing buf.new result }
     {
-        let room = buf.len().min(spent.len()).min(TURN_OCTETS);
+        let room = buf.len().min(spent.len()).min(share.octets);
         match peek(&self.stream, &mut buf[..room]) {
             Reading::Piece(len) => {
-                let front = front_len(self.framing, buf, len);
+                let front = front_len(self.framing, buf, len, share.frames);
                 take(&self.stream, &mut spent[..front])
             }
             other => other,

@@ -10,6 +10,7 @@ use crate::connection::Connection;
 use crate::limits::{CONNECTIONS_MAX, TURN_OCTETS};
 use crate::peers::Peers;
 use crate::refusal::{Reading, ended_if_dry};
+use crate::share::Share;
 use crate::system::first_kept_descriptor;
 use mio::net::TcpStream;
 use mio::{Interest, Registry, Token};
@@ -131,17 +132,19 @@ impl Connections {
         self.streams.contains(conn as usize)
     }
 
-    /// Reads what one turn of a connection gives. One that is silent, and has nothing to read, has
+    /// Reads a share of what a connection has. One that is silent, and has nothing to read, has
     /// ended.
     pub(crate) fn read(
         &mut self,
         conn: u32,
         is_silent: bool,
+        share: Share,
         now: Instant,
         buf: &mut [u8],
     ) -> Reading
+        requires { 0 < share.frames }
         ensures within { ReadsWithin (length buf.new) result }
-        ensures bounded { IfSome (framing_in self.new.streams conn) (λ framing. ReadsFront framing buf.new result) }
+        ensures bounded { IfSome (framing_in self.new.streams conn) (λ framing. ReadsFront share framing buf.new result) }
         ensures same { self.new.streams ≡ self.old.streams }
         ensures limit { self.new.limit ≡ self.old.limit }
     {
@@ -149,7 +152,7 @@ impl Connections {
         let Some(connection) = self.streams.get(key) else {
             return Reading::Dry;
         };
-        let reading = connection.read(buf, &mut self.spent);
+        let reading = connection.read(share, buf, &mut self.spent);
         if matches!(reading, Reading::Piece(_)) {
             self.note_heard(key, now);
         }

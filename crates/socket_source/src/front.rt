@@ -2,7 +2,6 @@
 ghost use Rattle.std.specs.Prelude.{◌≡◌, ◌<◌, ◌≤◌, length};
 ghost use Rattle.socket_source.specs.Turns.{IsFront, is_mark};
 
-use crate::limits::TURN_FRAMES;
 use syslog_frame::Framing;
 
 // Whether the octet at a place may be the last of a line, or of the count before a frame.
@@ -17,16 +16,17 @@ fn is_mark(framing: Framing, octets: &[u8], at: usize) -> bool
 }
 
 /// How many of the first `len` octets one turn gives: all, or those up to the end of as many lines,
-/// or counts before frames, as a turn may have.
-pub(crate) fn front_len(framing: Framing, octets: &[u8], len: usize) -> usize
-    requires { len ≤ length octets.now }
-    ensures { IsFront framing octets.now len result }
+/// or counts before frames, as it may have at most.
+pub(crate) fn front_len(framing: Framing, octets: &[u8], len: usize, most: usize) -> usize
+    requires within { len ≤ length octets.now }
+    requires some { 0 < most }
+    ensures { IsFront framing octets.now most len result }
 {
     let mut count = 0;
     for at in 0..len {
         if is_mark(framing, octets, at) {
             count += 1;
-            if count == TURN_FRAMES {
+            if count == most {
                 return at + 1;
             }
         }

@@ -22,6 +22,7 @@ mod options;
 mod peers;
 mod ready;
 mod refusal;
+mod share;
 mod socket_source;
 mod sockets;
 mod source;
@@ -30,7 +31,8 @@ mod system;
 mod unix_path;
 
 pub use limits::{
-    ACCEPTS_A_TURN, CONNECTIONS_MAX, DATAGRAMS_A_TURN, PIECE_MAX, TURN_FRAMES, TURN_OCTETS,
+    ACCEPTS_A_TURN, CONNECTIONS_MAX, DATAGRAMS_A_TURN, LEAST_FRAMES, LEAST_OCTETS, PIECE_MAX,
+    ROUND_FRAMES, ROUND_OCTETS, TURN_FRAMES, TURN_OCTETS,
 };
 pub use listener::{Inherited, Listener};
 pub use memory_source::MemorySource;

@@ -15,6 +15,20 @@ pub const TURN_OCTETS: usize = 65_536;
 /// The most frames that begin in what one turn of a connection gives.
 pub const TURN_FRAMES: usize = 1_024;
 
+/// The most octets that one turn each of all ready sockets gives, unless each has no more than
+/// `LEAST_OCTETS`.
+pub const ROUND_OCTETS: usize = 1_048_576;
+
+/// The most frames that begin in what one turn each of all ready sockets gives, unless each has no
+/// more than `LEAST_FRAMES`.
+pub const ROUND_FRAMES: usize = 16_384;
+
+/// How many octets a turn of a connection may have, however many sockets are ready.
+pub const LEAST_OCTETS: usize = 1_024;
+
+/// How many frames may begin in a turn of a connection, however many sockets are ready.
+pub const LEAST_FRAMES: usize = 16;
+
 /// The most datagrams of a socket in one turn.
 pub const DATAGRAMS_A_TURN: usize = 64;
 

@@ -2,7 +2,7 @@
 ghost use Rattle.std.specs.Prelude.{◌≡◌, ◌<◌, ◌≤◌, true, length, vec_len, IfNone, IfSome, IsSome, None};
 ghost use Rattle.socket_source.specs.Sockets.{IsAt, IsAtOrDisplaced, IsOf};
 ghost use Rattle.socket_source.specs.Steps.{Becomes, IfLawful, IsLawful, without_open};
-ghost use Rattle.socket_source.specs.Turns.{IsBounded};
+ghost use Rattle.socket_source.specs.Turns.{IsWithinShare};
 
 use crate::bound::{Bound, accept_from, receive};
 use crate::connections::Connections;
@@ -10,6 +10,7 @@ use crate::limits::{ACCEPTS_A_TURN, DATAGRAMS_A_TURN};
 use crate::peers::peer_number;
 use crate::ready::listener_number;
 use crate::refusal::{Reading, Refusal, Retry, retry_of};
+use crate::share::Share;
 use crate::step::{ConnectionEnd, ServerStep};
 use crate::system::spare_descriptor;
 use mio::Poll;
@@ -229,17 +230,25 @@ impl OpenSockets {
         self.connections.close(conn);
     }
 
-    /// Reads a connection, if one is open under the number. One that is silent, and has nothing to
-    /// read, ends.
-    pub(crate) fn read(&mut self, conn: u32, is_silent: bool, now: Instant, buf: &mut [u8]) -> Taken
+    /// Reads a share of a connection, if one is open under the number. One that is silent, and has
+    /// nothing to read, ends.
+    pub(crate) fn read(
+        &mut self,
+        conn: u32,
+        is_silent: bool,
+        share: Share,
+        now: Instant,
+        buf: &mut [u8],
+    ) -> Taken
+        requires { 0 < share.frames }
         ensures of { IfSome result.step (IsOf conn) }
         ensures lawful { IfLawful (standing_of self.old) (standing_of self.new) (length buf.new) result.step }
-        ensures bounded { IfSome result.step (IsBounded (framings_of self.new) buf.new) }
+        ensures bounded { IfSome result.step (IsWithinShare share (framings_of self.new) buf.new) }
     {
         if !self.connections.is_open(conn) {
             return Taken::none(Retry::Reported);
         }
-        match self.connections.read(conn, is_silent, now, buf) {
+        match self.connections.read(conn, is_silent, share, now, buf) {
             Reading::Piece(len) => Taken::some(ServerStep::Piece { conn, len }, Retry::Now),
             Reading::Ended(end) => {
                 self.close(conn);
@@ -250,10 +259,17 @@ impl OpenSockets {
         }
     }
 
-    /// Takes what a socket has, once: that of a listener, or behind them that of a connection.
-    pub(crate) fn take(&mut self, socket: usize, now: Instant, buf: &mut [u8]) -> Taken
+    /// Takes what a socket has, once: that of a listener, or behind them a share of a connection.
+    pub(crate) fn take(
+        &mut self,
+        socket: usize,
+        share: Share,
+        now: Instant,
+        buf: &mut [u8],
+    ) -> Taken
+        requires { 0 < share.frames }
         ensures lawful { IfLawful (standing_of self.old) (standing_of self.new) (length buf.new) result.step }
-        ensures bounded { IfSome result.step (IsBounded (framings_of self.new) buf.new) }
+        ensures bounded { IfSome result.step (IsWithinShare share (framings_of self.new) buf.new) }
     {
         match self.listeners.get(socket) {
             Some(Bound::Streams { .. }) => match self.admit_arrived(now) {
@@ -264,7 +280,7 @@ impl OpenSockets {
             None => {
                 let conn = socket.saturating_sub(self.listeners.len());
                 match u32::try_from(conn) {
-                    Ok(conn) => self.read(conn, false, now, buf),
+                    Ok(conn) => self.read(conn, false, share, now, buf),
                     Err(_) => Taken::none(Retry::Reported),
                 }
             }

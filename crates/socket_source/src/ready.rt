@@ -1,5 +1,5 @@
 //! The sockets that may have something.
-ghost use Rattle.std.specs.Prelude.{◌≡◌, ◌⊎◌, ◌+◌, ◌++◌, ◌<◌, [], length, IfOk, IsSome, None, vec_len};
+ghost use Rattle.std.specs.Prelude.{◌≡◌, ◌⊎◌, ◌+◌, ◌++◌, ◌<◌, ◌≤◌, [], length, IfOk, IsSome, None, vec_len};
 ghost use Rattle.std.specs.Option.{option_to_list};
 ghost use Rattle.std.specs.VecDeque.{deque_capacity};
 ghost use Rattle.socket_source.specs.Waiting.{KeepsOrder, Queues, Returns};
@@ -50,6 +50,7 @@ impl ReadyQueue {
         ensures queued { Queues (deque_capacity self.old.waiting) self.old.queued.items
             self.new.queued.items self.old.waiting.items self.new.waiting.items number }
         ensures order { KeepsOrder 0 (line_of self.old) (line_of self.new) }
+        ensures longer { length (line_of self.new) ≤ length (line_of self.old) + 1 }
         ensures going { self.new.going ≡ self.old.going }
         ensures steps { self.new.steps ≡ self.old.steps }
     {
@@ -98,6 +99,7 @@ impl ReadyQueue {
     /// steps, and then waits behind the others.
     pub(crate) fn stay(&mut self, number: usize, most: usize)
         ensures stays { Returns number (line_of self.old) (line_of self.new) }
+        ensures longer { length (line_of self.new) ≤ length (line_of self.old) + 1 }
         ensures few { IsSome self.new.going → self.new.going ≡ self.old.going ⊎ self.new.steps < most }
         ensures counted { self.new.steps ≡ self.old.steps ⊎ self.new.steps ≡ self.old.steps + 1 }
     {

@@ -61,7 +61,8 @@ impl<'a, R: Net + Files + Clock> SocketSource<'a, R> {
 }
 
 impl<'a, R: Clock> ServerSource for SocketSource<'a, R> {
-    ghost use Rattle.std.specs.Prelude.{None};
+    ghost use Rattle.std.specs.Prelude.{None, length};
+    ghost use Rattle.socket_source.specs.Lines.{line};
     ghost use Rattle.socket_source.specs.Steps.{GaveStep, counts_of};
     ghost use Rattle.socket_source.specs.Turns.{IsBounded};
     ghost use Rattle.socket_source.specs.Standings.{framings, standing};
@@ -75,8 +76,8 @@ impl<'a, R: Clock> ServerSource for SocketSource<'a, R> {
     fn next(&mut self, buf: &mut [u8]) -> ServerStep
         ensures gave { GaveStep (⟦<SocketSource<'a, R> as ServerSource>⟧.state self.old)
             (⟦<SocketSource<'a, R> as ServerSource>⟧.state self.new) result buf.new }
-        // A turn gives a part of what a connection has.
-        ensures bounded { IsBounded (framings self.new.sockets) buf.new result }
+        // A turn gives a part of what a connection has: a smaller one, the more sockets are ready.
+        ensures bounded { IsBounded (length (line self.new.sockets)) (framings self.new.sockets) buf.new result }
     {
         let step = self.sockets.next_step(buf);
         self.counts.count(step);

@@ -1,8 +1,9 @@
 //! The sockets of the system, in one loop without threads.
-ghost use Rattle.std.specs.Prelude.{◌≡◌, true, length, max, min, IfErr, IfOk, IfSome};
+ghost use Rattle.std.specs.Prelude.{◌≡◌, ◌+◌, ◌<◌, ◌≤◌, true, length, max, min, IfErr, IfOk, IfSome};
 ghost use Rattle.socket_source.specs.Opens.{IsFaultOf};
+ghost use Rattle.socket_source.specs.Shares.{IsShareOf};
 ghost use Rattle.socket_source.specs.Steps.{Becomes, IfLawful, IsLawful, IsVacant, without_open};
-ghost use Rattle.socket_source.specs.Turns.{IsBounded};
+ghost use Rattle.socket_source.specs.Turns.{IfPiece, IsBounded};
 ghost use Rattle.socket_source.specs.Waiting.{KeepsOrder, MovesUp, Returns};
 
 use crate::connections::Connections;
@@ -15,6 +16,7 @@ use crate::opening::{check_descriptors, open_listeners};
 use crate::options::SourceOptions;
 use crate::ready::{INPUT_NUMBER, ReadyQueue, listener_number};
 use crate::refusal::Retry;
+use crate::share::Share;
 use crate::step::{ConnectionEnd, ServerStep, SourceFault};
 use crate::system::spare_descriptor;
 use mio::{Events, Poll};
@@ -106,6 +108,14 @@ impl<'a, R: Clock> Sockets<'a, R> {
         }
     }
 
+    // The share of a socket that has its turn, beside those that wait.
+    fn share(&self) -> Share
+        ensures share { IsShareOf (length (line self.now) + 1) result }
+        ensures some { 0 < result.frames }
+    {
+        Share::of(self.ready.len().saturating_add(1))
+    }
+
     // A period is over. A tick behind a read may stand for its own.
     fn tick(&mut self, now: Instant) -> Option<ServerStep>
         ensures lawful { IfLawful (standing self.old) (standing self.new) 0 result }
@@ -141,10 +151,12 @@ impl<'a, R: Clock> Sockets<'a, R> {
     }
 
     // Has the listeners tried again if a step has made room for a connection.
+    #[tactic(auto, using(crate::proofs::Shares::if_piece_always))]
     fn use_room(&mut self, step: Option<ServerStep>)
         ensures standing { standing self.new ≡ standing self.old }
         ensures stays { self.new.held ≡ self.old.held }
         ensures order { KeepsOrder 0 (line self.old) (line self.new) }
+        ensures longer { IfSome step (IfPiece (λ conn len. length (line self.new) ≤ length (line self.old))) }
     {
         if let Some(ServerStep::Ended { .. }) = step {
             self.retry_listeners();
@@ -156,11 +168,24 @@ impl<'a, R: Clock> Sockets<'a, R> {
         ensures standing { standing self.new ≡ standing self.old }
         ensures stays { self.new.held ≡ self.old.held }
         ensures returns { Returns number (line self.old) (line self.new) }
+        ensures longer { length (line self.new) ≤ length (line self.old) + 1 }
     {
         match retry {
             Retry::Reported => {}
             Retry::Now => self.ready.stay(number, most),
             Retry::Later => self.later = true,
+        }
+    }
+
+    // A socket that has something left waits for its turn.
+    fn queue(&mut self, number: usize, retry: Retry)
+        ensures standing { standing self.new ≡ standing self.old }
+        ensures stays { self.new.held ≡ self.old.held }
+        ensures order { KeepsOrder 0 (line self.old) (line self.new) }
+        ensures longer { length (line self.new) ≤ length (line self.old) + 1 }
+    {
+        if let Retry::Now = retry {
+            self.ready.push(number);
         }
     }
 
@@ -186,15 +211,14 @@ impl<'a, R: Clock> Sockets<'a, R> {
     // read first: it may have come while the process was stopped.
     fn take_silent(&mut self, now: Instant, buf: &mut [u8]) -> Option<ServerStep>
         ensures lawful { IfLawful (standing self.old) (standing self.new) (length buf.new) result }
-        ensures bounded { IfSome result (IsBounded (framings self.new) buf.new) }
+        ensures bounded { IfSome result (IsBounded (length (line self.new)) (framings self.new) buf.new) }
         ensures order { KeepsOrder 0 (line self.old) (line self.new) }
     {
         let conn = self.find_silent(now)?;
         let number = self.socket_number(conn);
-        let taken = self.held.read(conn, true, now, buf);
-        if let Retry::Now = taken.retry {
-            self.ready.push(number);
-        }
+        let share = self.share();
+        let taken = self.held.read(conn, true, share, now, buf);
+        self.queue(number, taken.retry);
         self.use_room(taken.step);
         taken.step
     }
@@ -258,7 +282,7 @@ impl<'a, R: Clock> Sockets<'a, R> {
     // Looks at standard input.
     fn take_input(&mut self, now: Instant, buf: &mut [u8]) -> Taken
         ensures lawful { IfLawful (standing self.old) (standing self.new) 0 result.step }
-        ensures bounded { IfSome result.step (IsBounded (framings self.new) buf.new) }
+        ensures bounded { IfSome result.step (IsBounded 1 (framings self.new) buf.new) }
         ensures ready { self.new.ready ≡ self.old.ready }
     {
         match read_input(buf) {
@@ -274,12 +298,13 @@ impl<'a, R: Clock> Sockets<'a, R> {
     // A step of a socket.
     fn take(&mut self, number: usize, now: Instant, buf: &mut [u8]) -> Option<ServerStep>
         ensures lawful { IfLawful (standing self.old) (standing self.new) (length buf.new) result }
-        ensures bounded { IfSome result (IsBounded (framings self.new) buf.new) }
+        ensures bounded { IfSome result (IsBounded (length (line self.new)) (framings self.new) buf.new) }
         ensures returns { Returns number (line self.old) (line self.new) }
     {
         match number.checked_sub(1) {
             Some(socket) => {
-                let taken = self.held.take(socket, now, buf);
+                let share = self.share();
+                let taken = self.held.take(socket, share, now, buf);
                 let most = self.held.steps_of(socket);
                 self.settle(number, most, taken.retry);
                 self.use_room(taken.step);
@@ -306,7 +331,7 @@ impl<'a, R: Clock> Sockets<'a, R> {
     // One turn.
     fn turn(&mut self, buf: &mut [u8]) -> Option<ServerStep>
         ensures lawful { IfLawful (standing self.old) (standing self.new) (length buf.new) result }
-        ensures bounded { IfSome result (IsBounded (framings self.new) buf.new) }
+        ensures bounded { IfSome result (IsBounded (length (line self.new)) (framings self.new) buf.new) }
         ensures turn { MovesUp (line self.old) (line self.new) }
     {
         let Ok(now) = Instant::now(self.rt) else {
@@ -331,7 +356,7 @@ impl<'a, R: Clock> Sockets<'a, R> {
     // A step of the socket that has its turn. The system is asked for more after each round.
     fn take_ready(&mut self, now: Instant, buf: &mut [u8]) -> Option<ServerStep>
         ensures lawful { IfLawful (standing self.old) (standing self.new) (length buf.new) result }
-        ensures bounded { IfSome result (IsBounded (framings self.new) buf.new) }
+        ensures bounded { IfSome result (IsBounded (length (line self.new)) (framings self.new) buf.new) }
         ensures turn { MovesUp (line self.old) (line self.new) }
     {
         let Some(round) = self.round.checked_sub(1) else {
@@ -347,7 +372,7 @@ impl<'a, R: Clock> Sockets<'a, R> {
     /// The next step.
     pub(crate) fn next_step(&mut self, buf: &mut [u8]) -> ServerStep
         ensures lawful { IsLawful (standing self.old) (standing self.new) (length buf.new) result }
-        ensures bounded { IsBounded (framings self.new) buf.new result }
+        ensures bounded { IsBounded (length (line self.new)) (framings self.new) buf.new result }
     {
         if buf.is_empty() {
             return ServerStep::Failed(SourceFault::NoRoom);
