@@ -24,7 +24,7 @@ here() {
     name=$1
     shift
     "$@" > /dev/null 2>&1 || {
-        echo "SKIPPED $name: it is not here"
+        echo "SKIPPED $name: there is no $1"
         false
     }
 }
@@ -56,13 +56,15 @@ c() {
     return $found
 }
 
+# go asks pkg-config for the library for C, and keeps what it was told of another folder, but for other flags of its own.
 go_code() {
-    (cd go && go vet ./...)
+    build=$PWD/build
+    sh scripts/library.sh > /dev/null && (cd go && PKG_CONFIG_PATH=$build CGO_LDFLAGS=-L$build go vet ./...)
 }
 
 if here pyflakes "$pyflakes" --version; then lint pyflakes python; fi
 if here shellcheck shellcheck --version; then lint shellcheck shells; fi
 lint "gcc -Wall -Wextra -pedantic" c
-if here go go version; then lint "go vet" go_code; fi
+if here "go vet" go version && here "go vet" pkg-config --version; then lint "go vet" go_code; fi
 echo "$passed passed, $failed failed"
 [ "$failed" -eq 0 ]

@@ -5,9 +5,9 @@ usage: scripts/prove.py [--costs FOLDER] CRATE
 
 One rt at a time works in a crate's folder and those below it, so each library is proved in a copy of what it stands on,
 in TMPDIR, best on the repository's own disk. It begins with what earlier checks kept of the crate, and what is built and kept
-comes into the out/ folders of the crates. Prints how far each crate is, and all that rt says of one that is not proved. With
---costs each library is proved from scratch and each crate has one job, and FOLDER/CRATE.costs has what rt says of it with the
-seconds, for scripts/costs.py. The status is 0 exactly where the crate is built.
+comes into the out/ folders of the crates. Prints how far each crate is and what it took, and all that rt says of one that is not
+proved. With --costs each library is proved from scratch and each crate has one job, and FOLDER/CRATE.costs has what rt says of
+it with the seconds. scripts/costs.py reads both. The status is 0 exactly where the crate is built.
 """
 import argparse
 import functools
@@ -50,6 +50,7 @@ class Proof:
         self.costs = costs
         self.words = crates_below(program)
         self.proved = 0
+        self.used = dict.fromkeys(self.words, 0.0)  # processor seconds
         self.start = time.monotonic()
         self.telling = threading.Lock()
 
@@ -97,6 +98,7 @@ class Proof:
                     told = time.monotonic()
                     self.tell(f"{crate}: {far[1]} of {far[2]} functions")
                 stamped.append(f"{time.monotonic() - begun:.3f} {line}")
+            self.used[crate] += waited(rt)
         if self.costs and words[0] == "check":
             (self.costs / f"{crate}.costs").write_text("".join(stamped))
         if rt.returncode:
@@ -120,8 +122,12 @@ class Proof:
             for made in (folder / "out").iterdir():
                 shutil.rmtree(out / made.name, ignore_errors=True)
                 shutil.move(made, out / made.name)
-        self.tell(f"{crate} is proved, {functions(said)} functions", proved=1)
+        self.tell(self.proof(crate, said), proved=1)
         return True
+
+    def proof(self, crate, said):
+        """What is told of a crate that is proved."""
+        return f"{crate} is proved, {functions(said)} functions, {self.used[crate]:.0f} processor seconds"
 
     @functools.lru_cache(maxsize=None)
     def way(self, crate):
@@ -154,16 +160,24 @@ class Proof:
         args = folder / "args"
         given = ["--", *args.read_text().splitlines()] if args.exists() else []
         words = ["run", *given] if (folder / "src/main.rt").exists() else ["lib"]
+        self.tell(f"{self.program} begins")
         said = self.run(self.program, folder, "check", *(["--jobs", "1"] if self.costs else []))
         if said is None or self.run(self.program, folder, *words) is None:
             return False
-        self.tell(f"{self.program} is proved, {functions(said)} functions, and built", proved=1)
+        self.tell(f"{self.proof(self.program, said)}, and built", proved=1)
         return True
 
 
 def lanes():
     """How many crates are proved side by side; one of them has more than one job."""
     return max(2, len(os.sched_getaffinity(0)) - 1)
+
+
+def waited(process):
+    """Waits for a process, and gives the processor seconds that it took, with all that it waited for."""
+    _, status, used = os.wait4(process.pid, 0)
+    process.returncode = os.waitstatus_to_exitcode(status)
+    return used.ru_utime + used.ru_stime
 
 
 def functions(said):

@@ -22,6 +22,7 @@ alone runs in this very process. The others tell about themselves with --help.
 Each prints what fails, and last `N passed, M failed`; `mutants` prints how many were refused for a goal, for a name alone, let
 through or unreadable. The status is 0 exactly where nothing failed.
 """
+import multiprocessing
 import sys
 import tempfile
 from importlib import import_module
@@ -52,13 +53,24 @@ def try_part(name, words, results):
         part(*{"libraries": [injection], "stores": [program, trial]}.get(name, [program]), results)
 
 
-def there(names, words):
-    """Those of the parts whose programs are there; the others are told."""
-    lacking = {"libraries": words[1] == "-", "stores": words[2] == "-"}
+def share_memory():
+    """Whether processes can share memory."""
+    try:
+        multiprocessing.Lock()
+    except OSError:
+        return False
+    return True
+
+
+def there(names, words, results):
+    """Those of the parts whose programs are there, and all else that they need; the others are told."""
+    lacking = {name: "its program is not there" for name, word in zip(["libraries", "stores"], words[1:]) if word == "-"}
+    if not share_memory():
+        lacking |= dict.fromkeys(["soak", "noisy_senders"], "no process may write to /dev/shm")
     for name in names:
-        if lacking.get(name):
-            print(f"SKIPPED {name}: its program is not there", flush=True)
-    return [name for name in names if not lacking.get(name)]
+        if name in lacking:
+            results.skip(name, lacking[name])
+    return [name for name in names if name not in lacking]
 
 
 def main(words):
@@ -68,7 +80,7 @@ def main(words):
         print(__doc__, f"\nThe parts are {', '.join(PARTS)}.", file=sys.stderr)
         return 2
     results, words, names = Results(), words[:3], words[3:] or PARTS
-    names = there(names, words)
+    names = there(names, words, results)
     if len(names) == 1:
         try_part(names[0], words, results)
     else:

@@ -20,7 +20,7 @@ WORD = 2 ** 64
 ROOM = 8192  # places of a table for 4,097 to 16,384 octets
 WINDOW = 135  # ids that have one place
 STREAM = 3_000_000  # octets of a run that is timed
-RUNS = 12
+RUNS = 12  # of a shape; four times as many where the least is still too much, as beside other work
 MOST = 10  # times what an octet of a plain record costs
 BOTH = 16  # the same where many ids follow those that a table cannot tell apart, and all are sorted
 STACK = 1024 * 1024
@@ -106,17 +106,18 @@ class Clock:
             child.returncode = os.waitstatus_to_exitcode(status)
         return used.ru_utime + used.ru_stime
 
-    def ratio(self, plain, name, record):
+    def ratio(self, plain, name, record, limit):
         """The least cost of the record's octets beside the least of plain ones, in runs that take turns."""
         stream = (record + b"\n") * (STREAM // len(record) + 1)
         path = self.program.folder.file(name, stream)
         least, base = [], []
-        for _ in range(RUNS):
+        for n in range(4 * RUNS):
             least.append(self.once(path) / len(stream))
             base.append(self.once(plain[0]) / plain[1])
-            if min(least) <= MOST / 2 * min(base):
+            ratio = min(least) / min(base)
+            if ratio <= MOST / 2 or n + 1 >= RUNS and ratio <= limit:
                 break
-        return min(least) / min(base)
+        return ratio
 
 
 def on_little_stack():
@@ -129,8 +130,8 @@ def on_costs(program, results, hard):
     plain = program.folder.file("plain", lines), len(lines)
     for name, names in hard:
         record, told = repeated(names)
-        ratio = Clock(program).ratio(plain, "stream", record)
         limit = BOTH if "others" in name else MOST
+        ratio = Clock(program).ratio(plain, "stream", record, limit)
         results.check(f"an octet of ids, {name}", ratio <= limit, f"costs {ratio:.1f} times one of a plain record")
 
 

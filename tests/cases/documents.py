@@ -132,6 +132,7 @@ def laid_out(results, page):
     """groff and mandoc, if they are here, have nothing to say on a manual page."""
     for words in LINTERS:
         if shutil.which(words[0]) is None:
+            results.skip(f"{page.name}: what {words[0]} has to say", f"there is no {words[0]}")
             continue
         done = subprocess.run([*words, str(page)], capture_output=True)
         said = done.stderr + (done.stdout if "lint" in words else b"")

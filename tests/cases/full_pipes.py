@@ -195,7 +195,11 @@ def to_a_file(runs):
 
 def stopped_terminal(runs):
     """A terminal whose output is stopped, as by ^S, stops nothing; once it goes on, it gets its lines."""
-    ours, theirs = pty.openpty()
+    try:
+        ours, theirs = pty.openpty()
+    except OSError as error:
+        runs.results.skip("a stopped terminal", error)
+        return
     try:
         tty.setraw(theirs)
         termios.tcflow(theirs, termios.TCOOFF)
@@ -291,6 +295,7 @@ def full_disk(runs):
     disk.mkdir()
     words = ["mount", "-t", "tmpfs", "-o", "size=256k", "none", str(disk)]
     if subprocess.run(words, capture_output=True).returncode != 0:
+        runs.results.skip("refused frames on a full disk", "no disk may be mounted")
         return
     try:
         with runs.until_eof(*any_port("lf"), *SOON, store=disk / "store") as server:

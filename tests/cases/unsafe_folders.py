@@ -278,6 +278,7 @@ def parents(folders, program):
 
 def owners(folders):
     if os.getuid() != 0:
+        folders.results.skip("folders of other users", "only root makes them")
         return
     os.chmod(folders.path, 0o755)
     program = Program(shutil.copy(folders.program.path, folders.path / "program"), folders.program.folder)

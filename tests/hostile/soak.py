@@ -23,6 +23,7 @@ from hostile.records import Maker
 from lib import reference
 from lib.program import run
 from lib.results import Results
+from lib.side_by_side import cores
 
 ROOM = 48 << 20  # octets of address space, with what an archive holds on top
 SECONDS = 20  # of processor time, for one run
@@ -268,7 +269,7 @@ def endless(results, path, folder):
 
 def hunt(results, path, cases=0, seconds=0, seed=5424, jobs=None, tries=6, whole=False):
     with tempfile.TemporaryDirectory() as folder:
-        totals, wrong = rounds(path, seed, cases, seconds, jobs or os.cpu_count())
+        totals, wrong = rounds(path, seed, cases, seconds, jobs or cores())
         for line in wrong:
             results.check(f"soak, seed {seed}", False, line)
         for kind, count in totals.items():
@@ -294,7 +295,7 @@ def main(words):
     length.add_argument("--seconds", type=int, default=0)
     length.add_argument("--cases", type=int, default=0)
     given.add_argument("--seed", type=int, default=5424)
-    given.add_argument("--jobs", type=int, default=os.cpu_count())
+    given.add_argument("--jobs", type=int, default=cores())
     given = given.parse_args(words)
     results = Results()
     cases = given.cases if given.cases or given.seconds else 10_000_000

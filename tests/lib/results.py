@@ -26,6 +26,10 @@ class Results:
         if not holds:
             print(f"FAILED {name}: {seen}", flush=True)
 
+    def skip(self, name, why):
+        """What cannot be tried here is told, and counts neither way."""
+        print(f"SKIPPED {name}: {why}", flush=True)
+
     def same(self, name, seen, right):
         """An answer is what it must be."""
         self.check(name, seen == right, "" if seen == right else difference(seen, right))
