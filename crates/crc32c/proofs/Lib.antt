@@ -1,1 +1,4 @@
-pub mod Remainders
+pub mod Registers
+pub mod Sums
+pub mod Tables
+pub mod Words

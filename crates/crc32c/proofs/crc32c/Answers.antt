@@ -1,16 +1,13 @@
-use Rattle.std.proofs.Common.{ap, sym, ◌∙◌, ◌-◌, ◌+◌, ◌^◌, drop, bit_xor}
+use Rattle.std.proofs.Common.{◌-◌, ◌*◌, ◌/◌, ◌^◌, length, drop, bit_xor, ap, ◌∙◌}
 use Rattle.crc32c.specs.Castagnoli.{after_octets, crc32c}
-use Rattle.crc32c.proofs.Remainders.{octets_done, one_octet_on}
+use Rattle.crc32c.proofs.Registers.{all_behind, octets_split}
 use Rattle.crc32c.proofs.crc32c.Goals as goal
-
-pub loop-octet-preserved : goal.loop-octet-preserved
-loop-octet-preserved c =
-    ap (λ r. after_octets r (drop (c.loop-octet.octet-index + 1) c.args.octets.now)) c.after_octet-register.ensures
-    ∙ sym (one_octet_on c.loop-octet.register c.args.octets.now c.loop-octet.octet-index c.loop-octet-test.true)
-    ∙ c.loop-octet.invariant
 
 pub returns : goal.returns
 unfolding crc32c
 returns c =
     ap (λ r. bit_xor r (2 ^ 32 - 1))
-    (sym (octets_done c.loop-octet.register c.args.octets.now c.loop-octet.octet-index c.loop-octet-test.false) ∙ c.loop-octet.invariant)
+    (c.after_octets.ensures
+    ∙ ap (after_octets c.after_words-words.result) (all_behind c.args.octets.now (length c.args.octets.now / 8 * 8))
+    ∙ ap (λ r. after_octets r (drop (length c.args.octets.now / 8 * 8) c.args.octets.now)) c.after_words-words.ensures
+    ∙ octets_split (2 ^ 32 - 1) c.args.octets.now (length c.args.octets.now / 8 * 8))
