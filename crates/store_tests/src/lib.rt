@@ -1,7 +1,9 @@
-//! Tests of a store through its public calls: disks, journals, what is kept on them and read. There
+//! Tests of a store through its public calls: disks, journals, checksums, what is kept on them and read. There
 //! is nothing to call here.
 #![tactic(auto)]
 
+#[cfg(test)]
+mod checksums;
 #[cfg(test)]
 mod disks;
 #[cfg(test)]

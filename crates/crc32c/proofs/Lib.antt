@@ -1,0 +1,4 @@
+pub mod Registers
+pub mod Sums
+pub mod Tables
+pub mod Words
