@@ -2,7 +2,7 @@ use Rattle.std.proofs.Common.{◌∙◌, ap, true}
 use Rattle.clap.specs.Simple.{App, app_of_fields, on_top}
 use Rattle.clap.specs.declared.builder.command.Command.{Command}
 use Rattle.clap.specs.declared.builder.command.Command.TheOpen.{Command-F}
-use Rattle.command_line.proofs.words.empty_line.Goals as goal
+use Rattle.command_line.proofs.line.empty_line.Goals as goal
 
 abbrev top : App → App
 top = on_top (λ s. record s { has_version = true; no_binary_name = true; subcommand_required = true })
