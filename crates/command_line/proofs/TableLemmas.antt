@@ -4,7 +4,7 @@ use Rattle.std.proofs.lemmas.List.{drop_more}
 use Rattle.clap.specs.Simple.{App, with_rule, with_subcommand}
 use Rattle.command_line.specs.Tables.{app_by, rule_by, with_apps, with_rules}
 use Rattle.option_values.specs.declared.option_row.OptionRow.{OptionRow}
-use Rattle.command_line.specs.declared.command_rows.CommandRow.{CommandRow}
+use Rattle.option_values.specs.declared.option_row.CommandRow.{CommandRow}
 
 pub next_rule : (a : App) (rows : List OptionRow) (i : ℕ) (row : OptionRow) → i < length rows
     → with_rules a (drop i rows)

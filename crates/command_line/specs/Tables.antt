@@ -3,7 +3,7 @@ use Rattle.std.specs.Prelude.{List, [], ◌∷◌}
 use Rattle.clap.specs.Walk.{Rule, Text}
 use Rattle.clap.specs.Simple.{App, new_app, with_rule, with_subcommand}
 use Rattle.command_line.specs.CommandLine.{default_rule, several_rule, flag_rule, list_rule, option_rule, required_rule}
-use Rattle.command_line.specs.declared.command_rows.CommandRow.{CommandRow}
+use Rattle.option_values.specs.declared.option_row.CommandRow.{CommandRow}
 use Rattle.option_values.specs.declared.option_row.Form.{Form}
 use Rattle.option_values.specs.declared.option_row.Form.TheVariants as form
 use Rattle.option_values.specs.declared.option_row.OptionRow.{OptionRow}

@@ -3,7 +3,6 @@
 #![tactic(auto)]
 
 mod collecting;
-mod command_rows;
 mod digest_words;
 mod file_words;
 mod frame_words;

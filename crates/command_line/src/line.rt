@@ -7,9 +7,9 @@ ghost use Rattle.clap.specs.declared.builder.command.Command.TheViews.{out-Comma
 ghost use Rattle.command_line.specs.CommandLine.{empty_app, line_app, option_rule};
 ghost use Rattle.command_line.specs.Tables.{app_by, rule_by, with_apps, with_rules};
 
-use crate::command_rows::{COMMANDS, CommandRow};
 use clap::{Arg, ArgAction, Command};
-use option_values::{FILES_MAX, Form, OptionRow};
+use option_values::options::COMMANDS;
+use option_values::{CommandRow, FILES_MAX, Form, OptionRow};
 use std::alloc::{AllocError, Global};
 
 // What `--version` tells beside the program's name.

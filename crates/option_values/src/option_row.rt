@@ -62,6 +62,17 @@ pub struct OptionRow {
     pub help: &'static str,
 }
 
+/// A row of the table of commands.
+#[derive(Clone, Copy, Debug, PartialEq, Eq)]
+pub struct CommandRow {
+    /// The name.
+    pub name: &'static str,
+    /// What it does, in one line.
+    pub about: &'static str,
+    /// Its options, and its values by their places, in the order of its help.
+    pub options: &'static [OptionRow],
+}
+
 /// Why values that the parser accepts ask for nothing.
 #[derive(Clone, Copy, Debug, PartialEq, Eq)]
 pub enum Refusal<'a> {

@@ -1,6 +1,6 @@
 use Rattle.std.proofs.Common.{arith, rules}
 use Rattle.option_values.proofs.NumberLemmas.{number_yes, parsed_number, unparsed_number}
-use Rattle.option_values.proofs.numbers.number.Goals as goal
+use Rattle.option_values.proofs.numbers.number_from.Goals as goal
 
 pub returns-in-Ok : goal.returns-in-Ok
 returns-in-Ok c =
