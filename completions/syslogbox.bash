@@ -47,16 +47,16 @@ _syslogbox_value() {
         "show --framing" | "check --framing" | "convert --framing" | "archive --framing")
             echo "words datagram counted lf"
             ;;
-        "show --legacy" | "show --zone" | "check --legacy" | "check --zone" | "convert --legacy" | "convert --zone" |
-        "archive --legacy" | "archive --zone" | "archive --memory" | "select --from" | "select --to" |
-        "select --host" | "select --app" | "select --proc" | "select --msgid" | "select --id" | "read --from" |
-        "read --to" | "send --host" | "send --app" | "send --proc" | "send --msgid" | "send --micros" |
-        "collect --legacy" | "collect --zone" | "serve --udp" | "serve --counted" | "serve --lf" |
-        "serve --connections" | "serve --per-peer" | "serve --idle" | "serve --commit" | "serve --checkpoint" |
+        "show --legacy" | "show --zone" | "check --legacy" | "check --zone" | "convert --legacy" | \
+        "convert --zone" | "archive --legacy" | "archive --zone" | "archive --memory" | "select --from" | \
+        "select --to" | "select --host" | "select --app" | "select --proc" | "select --msgid" | "select --id" | \
+        "read --from" | "read --to" | "send --host" | "send --app" | "send --proc" | "send --msgid" | \
+        "send --micros" | "collect --legacy" | "collect --zone" | "serve --udp" | "serve --counted" | "serve --lf" | \
+        "serve --connections" | "serve --per-peer" | "serve --idle" | "serve --commit" | "serve --checkpoint" | \
         "serve --legacy" | "serve --zone")
             echo "text"
             ;;
-        "show --dialect" | "check --dialect" | "convert --dialect" | "archive --dialect" | "collect --dialect" |
+        "show --dialect" | "check --dialect" | "convert --dialect" | "archive --dialect" | "collect --dialect" | \
         "serve --dialect")
             echo "words bsd wide"
             ;;

@@ -97,7 +97,8 @@ def arms(pairs, indent):
     lines = []
     for answer, patterns in answers.items():
         alternatives = [f"{it} |" for it in patterns[:-1]] + [f"{patterns[-1]})"]
-        lines += wrapped(indent, alternatives, "")
+        *above, last = wrapped(indent, alternatives, "", WIDTH - 2)
+        lines += [f"{line} \\" for line in above] + [last]
         lines += wrapped(f'{indent}    echo "', answer.split(), '"')
         lines.append(f"{indent}    ;;")
     return lines

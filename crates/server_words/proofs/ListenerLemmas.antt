@@ -1,9 +1,9 @@
 -- Lists all of whose items are given.
-use Rattle.std.proofs.Common.{◌≡◌, ◌∙◌, ℕ, ◌+◌, ◌<◌, List, [], ◌∷◌, ◌++◌, Option, Some, None, append-nil, append_assoc}
+use Rattle.std.proofs.Common.{◌≡◌, ◌∙◌, ℕ, ◌+◌, ◌<◌, ◌≤◌, List, [], ◌∷◌, ◌++◌, Option, Some, None, append-nil, append_assoc}
 use Rattle.std.proofs.Common.{ap, get_or, length, map, option_map, option_and_then, refl, sym, take, drop}
-use Rattle.std.proofs.lemmas.List.{drop_more, map-append, take-append-drop, take_more}
+use Rattle.std.proofs.lemmas.List.{drop_all, drop_more, map-append, take-append-drop, take_more}
 use Rattle.clap.specs.Walk.{Row}
-use Rattle.server_words.specs.Listeners.{all_asked, all_given, asked_in, listeners_in}
+use Rattle.server_words.specs.Listeners.{ListenerAsked, all_asked, all_given, asked_in, listeners_in}
 use Rattle.server_words.specs.declared.listeners.ListenerOption.{ListenerOption}
 use Rattle.server_words.specs.declared.listeners.ListenerOption.TheVariants.{Udp, Counted, Lf, Unix, Inherited}
 
@@ -107,6 +107,12 @@ module _ {V X : Type 0} (m : V → List X) (found : List X) (ys : List (Option X
 pub next_option : (options : List ListenerOption) (i : ℕ) (option : ListenerOption) (rows : List Row) → i < length options
     → all_asked (drop i options) rows ≡ asked_in (get_or options i option) rows ++ all_asked (drop (i + 1) options) rows
 next_option options i option rows less = ap (λ left. all_asked left rows) (drop_more options i option less)
+
+-- the listeners, where no option is left
+pub none_left : (options : List ListenerOption) (i : ℕ) (rows : List Row) (found : List ListenerAsked) → length options ≤ i
+    → behind found (all_given (all_asked (drop i options) rows)) ≡ Some found
+none_left options i rows found all =
+    ap (λ left. behind found (all_given (all_asked left rows))) (drop_all i options all) ∙ ap Some (append-nil found)
 
 -- all five of them
 pub five_options : (rows : List Row) → behind [] (all_given (all_asked (Udp ∷ Counted ∷ Lf ∷ Unix ∷ Inherited ∷ []) rows))
