@@ -3,7 +3,7 @@ ghost use Rattle.std.specs.Prelude.{◌≡◌, IfOk};
 ghost use Rattle.store_engine.specs.Lines.{damage_lines};
 ghost use Rattle.store_engine.specs.Verifying.{IsVerdictStatus};
 
-use crate::lines::damage_line;
+use crate::lines::damaged_line;
 use crate::read::report_read_fault;
 use driver::{DONE, REFUSED};
 use octet_devices::{Output, write_all};
@@ -17,7 +17,7 @@ fn lines_on(alloc: Global, damaged: &[DamagedFile]) -> Result<Vec<u8>, AllocErro
 {
     let mut lines = Vec::new(alloc);
     'files: for file in damaged {
-        lines.extend_from_slice(&damage_line(alloc, file)?)?;
+        lines.extend_from_slice(&damaged_line(alloc, file.name.as_octets(), file.damage)?)?;
     }
     Ok(lines)
 }
