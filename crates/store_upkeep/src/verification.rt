@@ -11,8 +11,10 @@ use crate::damage::DamagedFile;
 use crate::journal_check::check_journal;
 use disk::FileName;
 use std::alloc::Global;
-use store_reading::{CheckFault, FileFault, Folder, Period, ReadFault};
-use store_reading::{check_segment, is_journal, list, open_file, segment_period};
+use store_reading::{
+    CheckFault, FileFault, Folder, Period, ReadFault, check_segment, is_journal, list, open_file,
+    segment_period,
+};
 
 // how often a file is opened that is there and gone
 const OPENINGS: usize = 64;
@@ -53,7 +55,11 @@ fn open_listed<F: Folder>(
 }
 
 // What the check of a file found, or why the file was not read.
-fn found_by(alloc: Global, name: &FileName, fault: CheckFault) -> Result<Option<FileFault>, ReadFault>
+fn found_by(
+    alloc: Global,
+    name: &FileName,
+    fault: CheckFault,
+) -> Result<Option<FileFault>, ReadFault>
     ensures found { IfOk result (IsFoundBy fault) }
     ensures cause { IfErr result (IsCause (open_causes ⊥ name.now)) }
 {
