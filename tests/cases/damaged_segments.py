@@ -5,9 +5,8 @@ from datetime import date, timedelta
 from hashlib import sha256
 from pathlib import Path
 
-from lib.reference import archive_read, archive_text, counted, counted_frames
+from lib.reference import archive_text, counted
 from lib.server import SOON, Runs, any_port, until
-from lib.store_format import of_segment
 
 DAYS, IN_TIME = 20_000, 10
 FIRST = date(1980, 1, 1)
@@ -64,23 +63,11 @@ def served(runs):
     return store, paths[0]
 
 
-def records_of(path):
-    """The records of a segment, None where it is no archive of its period."""
-    period, octets = path.name.split(".")[0], path.read_bytes()
-    if period != "mixed":
-        return of_segment(period.encode(), octets)
-    records, fault = archive_read(octets)
-    return None if fault else frozenset(records)
-
-
-def told(runs, name, store, path, right):
-    """A damaged segment is told by `verify`, and by `read` where it is no archive of its period; then `read` gives no
-    other records."""
+def told(runs, name, store, path):
+    """A damaged segment is told by `verify`, and by `read`, which writes nothing of its day."""
     status, output, notes = read(runs, store)
-    is_told = status == 1 and path.name.encode() in notes and right.startswith(output)
-    found = records_of(path)
-    is_right = is_told if found is None else status == 0 and found <= set(counted_frames(output)[0])
-    runs.results.check(f"{name}: read", is_right, f"{status} {output} {notes}")
+    is_told = status == 1 and output == b"" and notes.startswith(path.name.encode())
+    runs.results.check(f"{name}: read", is_told, f"{status} {output} {notes}")
     status, output, notes = runs.verify(store)
     is_told = status == 1 and output.startswith(path.name.encode())
     runs.results.check(f"{name}: verify", is_told, f"{status} {output} {notes}")
@@ -88,11 +75,11 @@ def told(runs, name, store, path, right):
 
 def each_octet(runs, name, store, path):
     """Each octet of a segment is another one in turn."""
-    whole, right = path.read_bytes(), read(runs, store)[1]
+    whole = path.read_bytes()
     for at in range(len(whole)):
         for change in 1, 0x20:
             path.write_bytes(whole[:at] + bytes([whole[at] ^ change]) + whole[at + 1:])
-            told(runs, f"{name}: octet {at} changed by {change}", store, path, right)
+            told(runs, f"{name}: octet {at} changed by {change}", store, path)
     path.write_bytes(whole)
     runs.results.same(f"{name}: whole again", runs.verify(store), (0, b"", b""))
 

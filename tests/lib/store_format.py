@@ -65,7 +65,7 @@ def held(files):
         if journal and is_number(journal.group(1)):
             parts = [of_batch(body) for body in bodies_of(octets)[0]]
         elif segment:
-            parts = [of_segment(segment.group(1), octets)]
+            parts = [of_segment(segment.group(1), octets) if is_named_right(name, octets) else None]
         if None in parts:
             return None
         found.update(*parts)

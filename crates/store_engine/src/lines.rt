@@ -3,7 +3,7 @@ ghost use Rattle.std.specs.Prelude.{◌≡◌, ◌++◌, ◌⊎◌, ◌↔◌, I
 ghost use Rattle.driver.specs.Devices.{Reports};
 ghost use Rattle.archive_engine.specs.FaultLines.{fault_line};
 ghost use Rattle.set_engine.specs.Ended.{TellsLine};
-ghost use Rattle.store_engine.specs.Lines.{day_line, damage_line, file_line};
+ghost use Rattle.store_engine.specs.Lines.{day_line, file_line};
 ghost use Rattle.store_engine.specs.NoStores.{IsOfMemory};
 
 use archive_engine::report_archive_fault;
@@ -16,7 +16,7 @@ use std::alloc::{AllocError, Global};
 use std::fmt::Display;
 use std::io::{self, ErrorKind};
 use store_reading::FileFault;
-use store_upkeep::{Damage, DamagedFile};
+use store_upkeep::DamagedFile;
 use thiserror::Error;
 
 /// A name and words behind it.
@@ -63,18 +63,7 @@ pub(crate) fn damaged_line(
     match fault {
         FileFault::Archive(fault) => archive_line(alloc, name, fault),
         FileFault::OtherDay { at } => other_day_line(alloc, name, at),
-    }
-}
-
-/// The line on a file that is found to be damaged.
-pub(crate) fn damage_line(alloc: Global, file: &DamagedFile) -> Result<Vec<u8>, AllocError>
-    ensures { IfOk result (λ line. line.items ≡ damage_line file.now.name file.now.damage) }
-{
-    let name = file.name.as_octets();
-    match file.damage {
-        Damage::Archive(fault) => archive_line(alloc, name, fault),
-        Damage::OtherDay { at } => other_day_line(alloc, name, at),
-        Damage::Digest => words_on(alloc, name, b" digest\n"),
+        FileFault::Digest => words_on(alloc, name, b" digest\n"),
     }
 }
 
@@ -99,10 +88,14 @@ pub(crate) fn report_line<N: Output>(
 /// Reports that a file is damaged, and returns `REFUSED`; or `NO_MEMORY` if memory runs out for the line,
 /// and `FAULT` if it cannot be written.
 pub fn report_damaged_file<N: Output>(alloc: Global, file: &DamagedFile, diagnostics: &mut N) -> u8
-    ensures { TellsLine (damage_line file.now.name file.now.damage) REFUSED
+    ensures { TellsLine (file_line file.now.name file.now.damage) REFUSED
         (N.state diagnostics.old) (N.state diagnostics.new) result }
 {
-    report_line(damage_line(alloc, file), REFUSED, diagnostics)
+    report_line(
+        damaged_line(alloc, file.name.as_octets(), file.damage),
+        REFUSED,
+        diagnostics,
+    )
 }
 
 /// Why a folder is no store, or none for the caller.

@@ -231,12 +231,12 @@ module _ (tells failed : Type 0) (files : Files) (range : InRange) (day : List �
   }
 
   pub day_cause : (before : Type 0) → (tells → before) → (fault : ReadFault)
-      → IsCause (file_causes before failed files (IsListedSegment names day) (λ n. IsDamagedSegment day)) fault
+      → IsCause (file_causes before failed files (IsListedSegment names day) (IsDamagedSegment day)) fault
       → IsCause (reading_causes tells failed files range) fault
   day_cause before told fault is =
-      cause_weaker (file_causes before failed files (IsListedSegment names day) (λ n. IsDamagedSegment day))
+      cause_weaker (file_causes before failed files (IsListedSegment names day) (IsDamagedSegment day))
       (reading_causes tells failed files range) (λ same. same) segment_read
-      (λ name damage so t. some_more (files name) (λ file. IsDamagedSegment day file damage)
+      (λ name damage so t. some_more (files name) (λ file. IsDamagedSegment day name file damage)
       (λ file. IsDamagedInMemory name file damage ⊎ IsDamagedIn range name file damage)
       (λ file damaged. inr (record {
         segment = record { day = day; meets = meets; named = so.0.1 };

@@ -30,14 +30,14 @@ use Rattle.archive_streams.proofs.EntrySteps.{begun}
 use Rattle.record_store.specs.Holdings.{IsOfPeriod, IsReadable, IsWholeJournal}
 use Rattle.record_store.specs.Segments.{IsArchiveOfDay}
 use Rattle.store_reading.specs.Damages.{IsBatchDamage, IsDamagedBatch, IsDamagedJournal}
-use Rattle.store_reading.specs.Damages.{IsDamagedSegment, IsFirstFault, IsJournalDamage, IsOtherDayAt, OfLeft, Tells}
+use Rattle.store_reading.specs.Damages.{IsDamagedArchive, IsFirstFault, IsJournalDamage, IsOtherDayAt, OfLeft, Tells}
 use Rattle.store_reading.specs.Damages.{position}
 use Rattle.store_reading.specs.Faults.{check_fault_of}
 use Rattle.store_reading.specs.Segments.{IsWholeOf, ReadsOf}
 use Rattle.store_reading.specs.declared.fault.CheckFault.{CheckFault}
 use Rattle.store_reading.specs.declared.fault.CheckFault.TheVariants.{Damaged, Input, Memory}
 use Rattle.store_reading.specs.declared.fault.FileFault.{FileFault}
-use Rattle.store_reading.specs.declared.fault.FileFault.TheVariants.{Archive, OtherDay}
+use Rattle.store_reading.specs.declared.fault.FileFault.TheVariants.{Archive, Digest, OtherDay}
 use Rattle.store_reading.proofs.Batched.{BatchAdded, JournalAdded}
 use Rattle.store_reading.proofs.Joined.{rest_of, whole_rest}
 use Rattle.store_reading.proofs.Readable.{IsReadUpTo, batch_fault, journal_fault, readable_first, unreadable}
@@ -165,51 +165,14 @@ no_archive day fault file bad (es, is) =
 
 -- the fault by which a reading stopped is that of the file
 pub stopped_told : (day : List ℕ) (fault : SideFault) (s t : ArchiveEntries) (d e f : InputState) → ReadsOf day s d e
-    → Halts fault s t e f → OfLeft d (λ file. Tells (check_fault_of fault) (IsDamagedSegment day file))
+    → Halts fault s t e f → OfLeft d (λ file. Tells (check_fault_of fault) (IsDamagedArchive day file))
 stopped_told day (side_Input fault) s t d e f r halts file left = tt
 stopped_told day (side_Archive fault) s t d e f r halts file left =
     let c = halts.cut_short d r.entries r.reads in
     let l = rest_of d.left f.left c.given file c.consumed left in
     let bad : IsArchiveFault ENTRY_MAX file fault = subst (λ (x : List ℕ). IsArchiveFault ENTRY_MAX x fault) (sym l.2)
     (goes_on c.given l.0 fault c.cause.0 (λ at. whole_rest f.left l.0 l.1 (c.cause.1 at).1)) in
-    record { not_whole = no_archive day fault file bad; told = bad }
-
--- entries of the day were read, up to a position
-pub record ReadsUpTo (day : List ℕ) (s : ArchiveEntries) (at : ℕ) (d e : InputState) : Type 0 where
-  pub segment : ReadsOf day s d e
-  pub place : at ≡ position (length (text_of segment.entries))
-
-place_more : (most a b at n later : ℕ) → at ≡ min a most → n ≡ min b most → later ≡ min (at + n) most
-    → later ≡ min (a + b) most
-place_more most a b at n later one two both = omega arith
-
-pub up_to_none : (day : List ℕ) (s : ArchiveEntries) (d : InputState) → Reads s d d [] → ReadsUpTo day s 0 d d
-up_to_none day s d none = record { segment = record { entries = []; reads = none; days = tt }; place = refl }
-
-pub up_to_more : (day : List ℕ) (s t : ArchiveEntries) (at n later : ℕ) (d e f : InputState) → ReadsUpTo day s at d e
-    → ReadsOne s t e f → IsOfPeriod day (current t) → n ≡ position (length (entry_text (current t)))
-    → later ≡ position (at + n) → ReadsUpTo day t later d f
-up_to_more day s t at n later d e f r one of size sum = record {
-  segment = record {
-    entries = r.segment.entries ++ current t ∷ [];
-    reads = one.reads d r.segment.entries r.segment.reads;
-    days = all_append (IsOfPeriod day) r.segment.entries (current t ∷ []) r.segment.days (of, tt);
-  };
-  place = place_more (2 ^ 64 - 1) (length (text_of r.segment.entries)) (length (entry_text (current t))) at n later
-      r.place size sum
-      ∙ ap position (sym (ap length (text_push r.segment.entries (current t))
-      ∙ length-append (text_of r.segment.entries) (entry_text (current t))));
-}
-
--- the next entry is of another day
-pub other_told : (day : List ℕ) (s t : ArchiveEntries) (at : ℕ) (d e f : InputState) → ReadsUpTo day s at d e
-    → ReadsOne s t e f → ¬ (IsOfPeriod day (current t)) → OfLeft d (λ file. IsDamagedSegment day file (OtherDay at))
-other_told day s t at d e f r one differs file left =
-    let reads = one.reads d r.segment.entries r.segment.reads in
-    record {
-      not_whole = other_day day d f file left t r.segment.entries reads differs;
-      told = other_day_at day d f file left t r.segment.entries at reads r.segment.days r.place differs;
-    }
+    record { not_archive = no_archive day fault file bad; told = bad }
 
 -- ---- a batch
 
@@ -286,5 +249,6 @@ journal_damaged old new file rest body behind offset (Damaged fault) j (sized, i
         journal_fault file rest body behind offset f
         (record { bodies = j.bodies; readable = j.readable; parts = j.parts }) sized is place small of
     damage (OtherDay at) of = of (batch_fits old new file rest body behind offset j is place small)
+    damage Digest of = of (batch_fits old new file rest body behind offset j is place small)
 journal_damaged old new file rest body behind offset (Input fault) j first place small told = tt
 journal_damaged old new file rest body behind offset Memory j first place small told = tt

@@ -4,6 +4,7 @@ pub mod Damaged
 pub mod DayOrders
 pub mod DaysRead
 pub mod Faulted
+pub mod Hashed
 pub mod Held
 pub mod Joined
 pub mod Mixed

@@ -2,12 +2,17 @@
 use Rattle.std.proofs.Common.{◌≡◌, ◌⊎◌, ℕ, ◌≤◌, List, [], ◌∷◌, ◌++◌, Option, None, Some, inl, inr, refl, sym, subst}
 use Rattle.std.proofs.Common.{length}
 use Rattle.std.specs.Prelude.{◌↔◌, IfSome, IsSomeAnd, codes}
+use Rattle.hex.specs.Hex.{encode_lower}
+use Rattle.sha2.specs.Hashers.{Holds256}
+use Rattle.sha2.specs.Sha256.{sha256}
+use Rattle.sha2.specs.declared.Sha256.{Sha256}
 use Rattle.disk.specs.States.{Files}
 use Rattle.octet_devices.specs.Device.{InputState}
 use Rattle.archive_text.specs.Entries.{Entry, Has, IsEntry}
-use Rattle.archive_text.specs.Text.{text_of}
+use Rattle.archive_text.specs.Text.{entry_text, text_of}
 use Rattle.archive_text.specs.declared.limits.TheConstants.{ENTRY_MAX}
 use Rattle.archive_text.proofs.Members.{all_append, has_right, of_member}
+use Rattle.archive_text.proofs.Texts.{text_push}
 use Rattle.archive_streams.specs.Entries.{current, Ends, IsWhole, Reads, ReadsOne}
 use Rattle.archive_streams.specs.declared.entries.ArchiveEntries.{ArchiveEntries}
 use Rattle.archive_streams.proofs.EntrySteps.{begun}
@@ -15,12 +20,12 @@ use Rattle.archive_sets.specs.declared.range.InRange.{InRange}
 use Rattle.archive_join.specs.Ranges.{IsOfRange}
 use Rattle.record_store.specs.Holdings.{IsOfPeriod, SegmentHas}
 use Rattle.record_store.specs.Names.{IsSegment}
-use Rattle.record_store.specs.Segments.{IsArchiveOfDay}
 use Rattle.store_reading.specs.Folders.{Opens}
 use Rattle.store_reading.specs.Journals.{Adds, AddsMixed, HasAsMixed}
-use Rattle.store_reading.specs.Segments.{ReadsOf}
+use Rattle.store_reading.specs.Segments.{IsHashed, ReadsOf}
 use Rattle.store_reading.proofs.Batched.{adds_none, adds_same, adds_then, has_push}
 use Rattle.store_reading.proofs.Damaged.{file_is}
+use Rattle.store_reading.proofs.Hashed.{hashed_of}
 use Rattle.store_reading.proofs.Segments.{has_is}
 
 -- ---- an entry
@@ -40,23 +45,26 @@ one_of_range range old new f inside adds =
 
 -- ---- the loop
 
--- the entries that were read are those of the range that were added
-pub record MixedAdded (range : InRange) (old new : List Entry) (s : ArchiveEntries) (d e : InputState) : Type 0 where
+-- the entries that were read are those of the range that were added, and were hashed
+pub record MixedAdded (range : InRange) (old new : List Entry) (s : ArchiveEntries) (hasher : Sha256)
+    (d e : InputState) : Type 0 where
   pub segment : ReadsOf (codes "mixed") s d e
+  pub hashed : Holds256 hasher (text_of segment.entries)
   pub adds : Adds old new (λ x. Has segment.entries x × IsOfRange range x)
 
-pub mixed_begun : (range : InRange) (old : List Entry) (s : ArchiveEntries) (d : InputState) → Reads s d d []
-    → MixedAdded range old old s d d
-mixed_begun range old s d none = record {
+pub mixed_begun : (range : InRange) (old : List Entry) (s : ArchiveEntries) (hasher : Sha256) (d : InputState)
+    → Reads s d d [] → Holds256 hasher [] → MixedAdded range old old s hasher d d
+mixed_begun range old s hasher d none empty = record {
   segment = record { entries = []; reads = none; days = tt };
+  hashed = empty;
   adds = adds_none old (λ x. Has [] x × IsOfRange range x) (λ x h. absurd h.0);
 }
 
 -- what comes next is an entry that fits
-pub next_entry : (range : InRange) (old new : List Entry) (s t : ArchiveEntries) (d e f : InputState)
-    → MixedAdded range old new s d e → ReadsOne s t e f
+pub next_entry : (range : InRange) (old new : List Entry) (s t : ArchiveEntries) (hasher : Sha256)
+    (d e f : InputState) → MixedAdded range old new s hasher d e → ReadsOne s t e f
     → IsEntry (current t) × (length (current t).octets ≤ ENTRY_MAX)
-next_entry range old new s t d e f m one =
+next_entry range old new s t hasher d e f m one =
     let all = begun t d f (m.segment.entries ++ current t ∷ []) (one.reads d m.segment.entries m.segment.reads) in
     let last : Has (m.segment.entries ++ current t ∷ []) (current t) =
     has_right m.segment.entries (current t ∷ []) (current t) (inl refl) in (
@@ -65,15 +73,18 @@ next_entry range old new s t d e f m one =
           all.archive.fits last,
     )
 
-pub mixed_more : (range : InRange) (old mid new : List Entry) (s t : ArchiveEntries) (d e f : InputState)
-    → MixedAdded range old mid s d e → ReadsOne s t e f
-    → Adds mid new (λ x. (current t ≡ x) × IsOfRange range x) → MixedAdded range old new t d f
-mixed_more range old mid new s t d e f m one adds = record {
+pub mixed_more : (range : InRange) (old mid new : List Entry) (s t : ArchiveEntries) (hasher next : Sha256)
+    (d e f : InputState) → MixedAdded range old mid s hasher d e → ReadsOne s t e f
+    → ((m : List ℕ) → Holds256 hasher m → Holds256 next (m ++ entry_text (current t)))
+    → Adds mid new (λ x. (current t ≡ x) × IsOfRange range x) → MixedAdded range old new t next d f
+mixed_more range old mid new s t hasher next d e f m one more adds = record {
   segment = record {
     entries = m.segment.entries ++ current t ∷ [];
     reads = one.reads d m.segment.entries m.segment.reads;
     days = all_append (IsOfPeriod (codes "mixed")) m.segment.entries (current t ∷ []) m.segment.days (inr refl, tt);
   };
+  hashed = subst (Holds256 next) (sym (text_push m.segment.entries (current t)))
+      (more (text_of m.segment.entries) m.hashed);
   adds = adds_then old mid new (λ x. Has m.segment.entries x × IsOfRange range x)
       (λ x. (current t ≡ x) × IsOfRange range x)
       (λ x. Has (m.segment.entries ++ current t ∷ []) x × IsOfRange range x) m.adds adds split;
@@ -98,8 +109,8 @@ some_of : (left : Option (List ℕ)) (P : List ℕ → Type 0) → ((file : List
 some_of None P each = tt
 some_of (Some file) P each = each file refl
 
-module _ (range : InRange) (old new : List Entry) (s t : ArchiveEntries) (d e f : InputState)
-    (m : MixedAdded range old new s d e) (ends : Ends s t e f) where
+module _ (range : InRange) (old new : List Entry) (s t : ArchiveEntries) (hasher : Sha256) (d e f : InputState)
+    (m : MixedAdded range old new s hasher d e) (ends : Ends s t e f) where
   whole : IsWhole d f m.segment.entries
   whole = ends.whole d m.segment.entries m.segment.reads
 
@@ -108,11 +119,9 @@ module _ (range : InRange) (old new : List Entry) (s t : ArchiveEntries) (d e f 
       file_is (codes "mixed") d f file
       (record { entries = m.segment.entries; whole = whole; days = m.segment.days }) left
 
-  pub mixed_whole : IfSome d.left (IsArchiveOfDay (codes "mixed"))
-  mixed_whole = some_of d.left (IsArchiveOfDay (codes "mixed")) (λ file left. (
-    m.segment.entries,
-    record { archive = whole.archive; text_is = text_is file left; days = m.segment.days },
-  ))
+  pub mixed_hashed : (hex : List ℕ) → ((text : List ℕ) → Holds256 hasher text → hex ≡ encode_lower (sha256 text))
+      → IsHashed (codes "mixed") d f hex
+  mixed_hashed hex digest = hashed_of (codes "mixed") s t hasher d e f hex m.segment m.hashed ends digest
 
   has_as : (file : List ℕ) → file ≡ text_of m.segment.entries → (x : Entry)
       → Has m.segment.entries x ↔ SegmentHas (codes "mixed") file x

@@ -1,30 +1,27 @@
 -- Segments are read, and opened.
 use Rattle.std.proofs.Common.{◌≡◌, ◌⊎◌, ℕ, List, [], ◌∷◌, ◌++◌, Option, None, Some, inl, inr, refl, sym, ap}
 use Rattle.std.proofs.Common.{subst, ◌∙◌}
-use Rattle.std.proofs.Common.{append-nil, arith}
-use Rattle.std.specs.Prelude.{ℤ, Contains, IsSomeAnd}
+use Rattle.std.proofs.Common.{arith}
+use Rattle.std.specs.Prelude.{ℤ, Contains, Err, IfOk, IsSomeAnd, Ok, Result}
 use Rattle.disk.specs.States.{Files}
 use Rattle.octet_devices.specs.Device.{InputState}
 use Rattle.archive_text.specs.Entries.{Entry, Has}
 use Rattle.archive_text.specs.Text.{IsArchive, text_of}
 use Rattle.archive_text.specs.declared.limits.TheConstants.{ENTRY_MAX}
-use Rattle.archive_text.proofs.Members.{all_append}
 use Rattle.archive_text.proofs.Texts.{same_text}
-use Rattle.archive_streams.specs.Entries.{current, Ends, Reads, ReadsOne}
-use Rattle.archive_streams.specs.declared.entries.ArchiveEntries.{ArchiveEntries}
 use Rattle.archive_join.specs.Holders.{IsHeld}
 use Rattle.record_store.specs.Holdings.{IsOfPeriod, SegmentHas}
 use Rattle.record_store.specs.Names.{IsSegment}
+use Rattle.record_store.specs.Segments.{segment_name}
+use Rattle.store_reading.specs.Damages.{OfLeft}
 use Rattle.store_reading.specs.Days.{MayHave}
 use Rattle.store_reading.specs.Folders.{IsUnused, Opens}
-use Rattle.store_reading.specs.Segments.{AreSegmentsOf, HasAsSegment, IsSegmentInput, IsWholeOf, NamesHave, ReadsOf}
+use Rattle.store_reading.specs.Segments.{AreSegmentsOf, HasAsSegment, IsSegmentInput, NamesHave}
+use Rattle.store_reading.specs.Whole.{IsWholeSegment}
 use Rattle.store_reading.proofs.Held.{no_name, some_before, some_either, some_last}
-use Rattle.store_reading.proofs.Joined.{archives_push, held_push, rest_of, whole_rest}
+use Rattle.store_reading.proofs.Joined.{archives_push, held_push}
 
--- ---- a segment is read
-
-pub reads_none : (day : List ℕ) (s : ArchiveEntries) (d : InputState) → Reads s d d [] → ReadsOf day s d d
-reads_none day s d none = record { entries = []; reads = none; days = tt }
+-- ---- an entry
 
 -- the instant is that of an entry
 pub of_instant : (period : List ℕ) (i : Option ℤ) (e : Entry) → i ≡ e.instant → MayHave period i → IsOfPeriod period e
@@ -34,40 +31,36 @@ pub not_of_instant : (period : List ℕ) (i : Option ℤ) (e : Entry) → i ≡ 
     → ¬ (IsOfPeriod period e)
 not_of_instant period i e same not of = not (subst (MayHave period) (sym same) of)
 
-pub reads_more : (day : List ℕ) (s t : ArchiveEntries) (d e f : InputState) → ReadsOf day s d e → ReadsOne s t e f
-    → IsOfPeriod day (current t) → ReadsOf day t d f
-reads_more day s t d e f r one of = record {
-  entries = r.entries ++ current t ∷ [];
-  reads = one.reads d r.entries r.reads;
-  days = all_append (IsOfPeriod day) r.entries (current t ∷ []) r.days (of, tt);
-}
-
-pub whole_of : (day : List ℕ) (s t : ArchiveEntries) (d e f : InputState) → ReadsOf day s d e → Ends s t e f
-    → IsWholeOf day d f
-whole_of day s t d e f r ends = record { entries = r.entries; whole = ends.whole d r.entries r.reads; days = r.days }
-
 -- ---- a segment is opened
 
-segment_at : (files : Files) (name day : List ℕ) (c e d : InputState) (o : Option (List ℕ)) → files name ≡ o
-    → IsSomeAnd o (λ octets. c.left ≡ Some octets) → IsWholeOf day c e → IsSomeAnd o (λ octets. d.left ≡ Some octets)
-    → IsUnused d → IsSegmentInput files name day d
-segment_at files name day c e d None is opened w again unused = absurd opened
-segment_at files name day c e d (Some file) is opened w again unused =
-    let r = rest_of c.left e.left (text_of w.entries) file w.whole.consumed opened in
-    let none = whole_rest e.left r.0 r.1 w.whole.none_left in
-    let text : file ≡ text_of w.entries =
-    r.2 ∙ ap (λ (t : List ℕ). text_of w.entries ++ t) none ∙ append-nil (text_of w.entries) in
+segment_at : (files : Files) (name day : List ℕ) (c d : InputState) (o : Option (List ℕ)) → files name ≡ o
+    → IsSomeAnd o (λ octets. c.left ≡ Some octets) → OfLeft c (IsWholeSegment day name)
+    → IsSomeAnd o (λ octets. d.left ≡ Some octets) → IsUnused d → IsSegmentInput files name day d
+segment_at files name day c d None is opened whole again unused = absurd opened
+segment_at files name day c d (Some file) is opened whole again unused =
+    let w = whole file opened in
     record {
       entries = w.entries;
-      input = record { unused = unused; left = again ∙ ap Some text; archive = w.whole.archive };
-      file = is ∙ ap Some text;
-      days = w.days;
+      input = record { unused = unused; left = again ∙ ap Some w.archive.text_is; archive = w.archive.archive };
+      file = is ∙ ap Some w.archive.text_is;
+      days = w.archive.days;
+      named = w.named ∙ ap (segment_name day) w.archive.text_is;
     }
 
-pub segment_input : (files : Files) (name day : List ℕ) (c e d : InputState) → Opens files name c → IsWholeOf day c e
-    → Opens files name d → IsUnused d → IsSegmentInput files name day d
-segment_input files name day c e d opened w again unused =
-    segment_at files name day c e d (files name) refl opened w again unused
+pub segment_input : (files : Files) (name day : List ℕ) (c d : InputState) → Opens files name c
+    → OfLeft c (IsWholeSegment day name) → Opens files name d → IsUnused d → IsSegmentInput files name day d
+segment_input files name day c d opened whole again unused =
+    segment_at files name day c d (files name) refl opened whole again unused
+
+-- once it was checked, and the files stayed the same
+pub input_result : {F E : Type 0} (state : F → InputState) (files mid : Files) (name day : List ℕ) (d : InputState)
+    (r : Result F E) → mid ≡ files → Opens files name d → OfLeft d (IsWholeSegment day name)
+    → IfOk r (λ file. Opens mid name (state file)) → IfOk r (λ file. IsUnused (state file))
+    → IfOk r (λ file. IsSegmentInput files name day (state file))
+input_result state files mid name day d (Err e) same opened whole again unused = tt
+input_result state files mid name day d (Ok file) same opened whole again unused =
+    segment_input files name day d (state file) opened whole
+    (subst (λ (f : Files). Opens f name (state file)) same again) unused
 
 -- ---- the segments of a day
 

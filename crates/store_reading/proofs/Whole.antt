@@ -12,11 +12,11 @@ use Rattle.archive_sets.specs.declared.range.InRange.{InRange}
 use Rattle.store_reading.specs.Days.{IsAfter, IsDayBelow}
 use Rattle.store_reading.specs.Folders.{AreNamesOf, Opens}
 use Rattle.store_reading.specs.Names.{HaveSegment, IsNextDay}
+use Rattle.store_reading.specs.Damages.{OfLeft}
 use Rattle.store_reading.specs.Segments.{IsSegmentInput}
 use Rattle.store_reading.specs.Whole.{DaysAreWhole, EarlierAreWhole}
-use Rattle.record_store.specs.Segments.{IsArchiveOfDay}
 use Rattle.record_store.specs.Holdings.{IsReadable, IsWholeJournal}
-use Rattle.store_reading.specs.Whole.{IsWholeJournalAt, IsWholeSegmentAt, JournalsAreWhole, MeetsRange}
+use Rattle.store_reading.specs.Whole.{IsWholeJournalAt, IsWholeSegment, IsWholeSegmentAt, JournalsAreWhole, MeetsRange}
 use Rattle.store_reading.specs.Whole.{NamedMemoryIsWhole, NamedSegmentsAreWhole, SegmentsAreWhole}
 use Rattle.store_reading.proofs.Batched.{BatchAdded, JournalAdded}
 use Rattle.store_reading.proofs.DayOrders.{day_text, day_total}
@@ -75,9 +75,13 @@ opened_whole files name d opens whole = λ journal. file_whole IsWholeJournal (f
 
 -- the mixed segment that was opened
 pub opened_mixed : (files : Files) (name : List ℕ) (d : InputState) → Opens files name d
-    → IfSome d.left (IsArchiveOfDay (codes "mixed")) → IsWholeSegmentAt files (codes "mixed") name
-opened_mixed files name d opens whole =
-    λ segment. file_whole (IsArchiveOfDay (codes "mixed")) (files name) d.left opens whole
+    → OfLeft d (IsWholeSegment (codes "mixed") name) → IsWholeSegmentAt files (codes "mixed") name
+opened_mixed files name d opens whole segment = at (files name) opens
+  where
+    at : (o : Option (List ℕ)) → IsSomeAnd o (λ octets. d.left ≡ Some octets)
+        → IfSome o (IsWholeSegment (codes "mixed") name)
+    at None opened = absurd opened
+    at (Some file) opened = whole file opened
 
 -- ---- names
 
@@ -105,21 +109,25 @@ journals_whole files names listed whole name journal =
 pub mixed_whole : (files : Files) (names : List (List ℕ)) → AreNamesOf files names → NamedMemoryIsWhole files names
     → SegmentsAreWhole files (codes "mixed")
 mixed_whole files names listed whole name segment =
-    listed_whole (IsArchiveOfDay (codes "mixed")) files names name (files name) refl listed
+    listed_whole (IsWholeSegment (codes "mixed") name) files names name (files name) refl listed
     (λ has. (whole name has).mixed segment)
 
 pub day_whole : (files : Files) (names : List (List ℕ)) (day : List ℕ) → AreNamesOf files names
     → NamedSegmentsAreWhole files names day → SegmentsAreWhole files day
 day_whole files names day listed whole name segment =
-    listed_whole (IsArchiveOfDay day) files names name (files name) refl listed (λ has. whole name has segment)
+    listed_whole (IsWholeSegment day name) files names name (files name) refl listed (λ has. whole name has segment)
 
 -- ---- segments
 
 -- the segment that was opened
 pub segment_whole : (files : Files) (name day : List ℕ) (d : InputState) → IsSegmentInput files name day d
     → IsWholeSegmentAt files day name
-segment_whole files name day d i = λ segment. subst (λ (o : Option (List ℕ)). IfSome o (IsArchiveOfDay day)) (sym i.file)
-    (i.entries, record { archive = i.input.archive; text_is = refl; days = i.days })
+segment_whole files name day d i =
+    λ segment. subst (λ (o : Option (List ℕ)). IfSome o (IsWholeSegment day name)) (sym i.file) (record {
+      entries = i.entries;
+      archive = record { archive = i.input.archive; text_is = refl; days = i.days };
+      named = i.named;
+    })
 
 -- ---- days
 
@@ -129,7 +137,7 @@ module _ (files : Files) (range : InRange) (last : Option (List ℕ)) (names : L
   -- of a day behind the last one that has no segment nothing is to be whole
   no_segment : (d : List ℕ) → ¬ (HaveSegment names d) → SegmentsAreWhole files d
   no_segment d none name segment =
-      listed_whole (IsArchiveOfDay d) files names name (files name) refl listed
+      listed_whole (IsWholeSegment d name) files names name (files name) refl listed
       (λ has. absurd (none (name, has, segment)))
 
   -- where there is no further day

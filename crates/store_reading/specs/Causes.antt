@@ -77,7 +77,7 @@ IsOfMemoryName name = IsJournal name ⊎ IsSegment (codes "mixed") name
 abbrev pub IsDamagedInMemory : List ℕ → List ℕ → FileFault → Type 0
 IsDamagedInMemory name file fault =
     (IsJournal name × IsDamagedJournal file fault)
-    ⊎ (IsSegment (codes "mixed") name × IsDamagedSegment (codes "mixed") file fault)
+    ⊎ (IsSegment (codes "mixed") name × IsDamagedSegment (codes "mixed") name file fault)
 
 -- one that is listed
 abbrev pub IsListedInMemory : List (List ℕ) → List ℕ → Type 0
@@ -101,7 +101,7 @@ pub record IsReadOf (tells : Type 0) (files : Files) (range : InRange) (name : L
 -- the octets of a segment of a day that may have a record in the range are damaged so
 pub record IsDamagedIn (range : InRange) (name file : List ℕ) (fault : FileFault) : Type 0 where
   pub segment : IsSegmentIn range name
-  pub damaged : IsDamagedSegment segment.day file fault
+  pub damaged : IsDamagedSegment segment.day name file fault
 
 -- a file that is read of a range is damaged so, as a journal or as a segment
 abbrev pub IsDamagedOf : Files → InRange → List ℕ → FileFault → Type 0

@@ -1,5 +1,5 @@
 -- What is wrong with the octets of files.
-use Rattle.std.specs.Prelude.{◌≡◌, ℕ, ◌+◌, ◌-◌, ◌<◌, ◌^◌, min, List, [], ◌∷◌, ◌++◌, Some, length}
+use Rattle.std.specs.Prelude.{◌≡◌, ◌≢◌, ℕ, ◌+◌, ◌-◌, ◌<◌, ◌^◌, min, List, [], ◌∷◌, ◌++◌, Some, length}
 use Rattle.std.specs.List.{AllByRecursion}
 use Rattle.octet_devices.specs.Device.{InputState}
 use Rattle.archive_text.specs.Entries.{Entry}
@@ -10,11 +10,13 @@ use Rattle.archive_text.specs.declared.fault.ArchiveFault.{ArchiveFault}
 use Rattle.archive_text.specs.declared.limits.TheConstants.{ENTRY_MAX}
 use Rattle.journal.specs.Batches.{IsBody, batches_text, open_batch}
 use Rattle.record_store.specs.Holdings.{IsBatch, IsOfPeriod, IsReadable, IsWholeJournal}
-use Rattle.record_store.specs.Segments.{IsArchiveOfDay}
+use Rattle.record_store.specs.Segments.{IsArchiveOfDay, segment_name}
 use Rattle.store_reading.specs.declared.fault.CheckFault.{CheckFault}
 use Rattle.store_reading.specs.declared.fault.CheckFault.TheVariants.{Damaged, Input, Memory}
 use Rattle.store_reading.specs.declared.fault.FileFault.{FileFault}
-use Rattle.store_reading.specs.declared.fault.FileFault.TheVariants.{Archive, OtherDay}
+use Rattle.store_reading.specs.declared.fault.FileFault.TheVariants.{Archive, Digest, OtherDay}
+use Rattle.store_reading.specs.Segments.{IsNamedBy}
+use Rattle.store_reading.specs.Whole.{IsWholeSegment}
 
 -- what a fault says of the damage that it tells
 abbrev pub Tells : CheckFault → (FileFault → Type 0) → Type 0
@@ -46,11 +48,28 @@ pub record IsOtherDayAt (period file : List ℕ) (at : ℕ) : Type 0 where
 abbrev pub IsArchiveDamage : List ℕ → List ℕ → FileFault → Type 0
 IsArchiveDamage period file (Archive fault) = IsArchiveFault ENTRY_MAX file fault
 IsArchiveDamage period file (OtherDay at) = IsOtherDayAt period file at
+IsArchiveDamage period file Digest = ⊥
 
--- the octets of a segment of a period are damaged so
-pub record IsDamagedSegment (period file : List ℕ) (fault : FileFault) : Type 0 where
-  pub not_whole : ¬ (IsArchiveOfDay period file)
+-- the octets are damaged so
+pub record IsDamagedArchive (period file : List ℕ) (fault : FileFault) : Type 0 where
+  pub not_archive : ¬ (IsArchiveOfDay period file)
   pub told : IsArchiveDamage period file fault
+
+-- a segment is not whole: it is no archive of its period, or is one and has the name of another
+abbrev pub IsSegmentDamage : List ℕ → List ℕ → List ℕ → FileFault → Type 0
+IsSegmentDamage period name file (Archive fault) = IsArchiveDamage period file (Archive fault)
+IsSegmentDamage period name file (OtherDay at) = IsArchiveDamage period file (OtherDay at)
+IsSegmentDamage period name file Digest = IsArchiveOfDay period file × (name ≢ segment_name period file)
+
+-- the segment of a period that has a name is damaged so
+pub record IsDamagedSegment (period name file : List ℕ) (fault : FileFault) : Type 0 where
+  pub not_whole : ¬ (IsWholeSegment period name file)
+  pub told : IsSegmentDamage period name file fault
+
+-- another digest is told of a segment whose name has not this one
+pub record IsOtherDigest (period name hex : List ℕ) (fault : FileFault) : Type 0 where
+  pub told : fault ≡ Digest
+  pub other : ¬ (IsNamedBy period name hex)
 
 -- ---- journals
 
@@ -88,11 +107,13 @@ pub record IsJournalFault (file : List ℕ) (told : ArchiveFault) : Type 0 where
 abbrev pub IsBatchDamage : List ℕ → ℕ → FileFault → Type 0
 IsBatchDamage body offset (Archive fault) = IsBatchFault body offset fault
 IsBatchDamage body offset (OtherDay at) = ⊥
+IsBatchDamage body offset Digest = ⊥
 
 -- of a journal only a batch can be damaged
 abbrev pub IsJournalDamage : List ℕ → FileFault → Type 0
 IsJournalDamage file (Archive fault) = IsJournalFault file fault
 IsJournalDamage file (OtherDay at) = ⊥
+IsJournalDamage file Digest = ⊥
 
 -- a batch, which begins at an offset of its file, is damaged so
 pub record IsDamagedBatch (body : List ℕ) (offset : ℕ) (fault : FileFault) : Type 0 where

@@ -1,7 +1,9 @@
 -- What segments have.
-use Rattle.std.specs.Prelude.{◌≡◌, ◌↔◌, ℕ, List, [], ◌∷◌, ◌++◌, Some, IsSomeAnd}
+use Rattle.std.specs.Prelude.{◌≡◌, ◌↔◌, ℕ, List, [], ◌∷◌, ◌++◌, Some, IsSomeAnd, codes}
 use Rattle.std.specs.List.{AllByRecursion}
 use Rattle.disk.specs.States.{Files}
+use Rattle.hex.specs.Hex.{encode_lower}
+use Rattle.sha2.specs.Sha256.{sha256}
 use Rattle.octet_devices.specs.Device.{InputState}
 use Rattle.archive_text.specs.Entries.{Entry}
 use Rattle.archive_text.specs.Text.{IsArchive, text_of}
@@ -11,6 +13,7 @@ use Rattle.archive_streams.specs.declared.entries.ArchiveEntries.{ArchiveEntries
 use Rattle.archive_join.specs.Holders.{IsHeld}
 use Rattle.record_store.specs.Holdings.{IsOfPeriod, SegmentHas}
 use Rattle.record_store.specs.Names.{IsSegment}
+use Rattle.record_store.specs.Segments.{segment_name}
 use Rattle.store_reading.specs.Days.{IsOf}
 use Rattle.store_reading.specs.Folders.{IsUnused}
 use Rattle.store_reading.specs.Names.{SomeName}
@@ -27,6 +30,15 @@ pub record ReadsOf (period : List ℕ) (s : ArchiveEntries) (d e : InputState) :
   pub reads : Reads s d e entries
   pub days : AllByRecursion (IsOfPeriod period) entries
 
+-- a segment of the period was read to its end, and this is the digest of its octets
+pub record IsHashed (period : List ℕ) (d e : InputState) (hex : List ℕ) : Type 0 where
+  pub segment : IsWholeOf period d e
+  pub digest : hex ≡ encode_lower (sha256 (text_of segment.entries))
+
+-- PERIOD.HEX.archive, with this digest
+abbrev pub IsNamedBy : List ℕ → List ℕ → List ℕ → Type 0
+IsNamedBy period name hex = name ≡ period ++ 46 ∷ hex ++ codes ".archive"
+
 -- an input that was not called yet, of an archive of these entries
 pub record IsArchiveInput (d : InputState) (xs : List Entry) : Type 0 where
   pub unused : IsUnused d
@@ -39,12 +51,13 @@ AreArchives [] [] = Unit {0}
 AreArchives (d ∷ ds) (xs ∷ xss) = IsArchiveInput d xs × AreArchives ds xss
 AreArchives ds xss = ⊥
 
--- the input of a segment of the period, which the folder has under the name
+-- the input of a segment of the period, which the folder has under the name, that of its digest
 pub record IsSegmentInput (files : Files) (name period : List ℕ) (d : InputState) : Type 0 where
   pub entries : List Entry
   pub input : IsArchiveInput d entries
   pub file : files name ≡ Some (text_of entries)
   pub days : AllByRecursion (IsOfPeriod period) entries
+  pub named : name ≡ segment_name period (text_of entries)
 
 -- the file under a name has the entry, as a segment of the period
 abbrev pub HasAsSegment : Files → List ℕ → List ℕ → Entry → Type 0

@@ -1,12 +1,12 @@
 -- Files that are whole.
-use Rattle.std.specs.Prelude.{ℕ, List, Option, Contains, IfSome, codes}
+use Rattle.std.specs.Prelude.{◌≡◌, ℕ, List, Option, Contains, IfSome, codes}
 use Rattle.disk.specs.States.{Files}
 use Rattle.archive_text.specs.Entries.{Entry}
 use Rattle.archive_sets.specs.declared.range.InRange.{InRange}
 use Rattle.archive_join.specs.Ranges.{IsOfRange}
 use Rattle.record_store.specs.Holdings.{IsWholeJournal}
 use Rattle.record_store.specs.Names.{IsJournal, IsSegment}
-use Rattle.record_store.specs.Segments.{IsArchiveOfDay}
+use Rattle.record_store.specs.Segments.{IsSegmentOf, segment_name}
 use Rattle.store_reading.specs.Days.{IsAfter, IsOf}
 
 -- the file under a name, if there is one, is whole where the name is that of a journal
@@ -17,9 +17,15 @@ IsWholeJournalAt files name = IsJournal name → IfSome (files name) IsWholeJour
 abbrev pub JournalsAreWhole : Files → Type 0
 JournalsAreWhole files = (name : List ℕ) → IsWholeJournalAt files name
 
--- the file under a name, if there is one, is an archive of the period where the name is that of a segment of the period
+-- a segment is the archive of entries of its period, and its name has the SHA-256 of its octets
+pub record IsWholeSegment (period name file : List ℕ) : Type 0 where
+  pub entries : List Entry
+  pub archive : IsSegmentOf period file entries
+  pub named : name ≡ segment_name period file
+
+-- so is the file under a name, if there is one, where the name is that of a segment of the period
 abbrev pub IsWholeSegmentAt : Files → List ℕ → List ℕ → Type 0
-IsWholeSegmentAt files period name = IsSegment period name → IfSome (files name) (IsArchiveOfDay period)
+IsWholeSegmentAt files period name = IsSegment period name → IfSome (files name) (IsWholeSegment period name)
 
 -- it is whole where it is read into memory, as a journal or as a mixed segment
 pub record IsWholeInMemory (files : Files) (name : List ℕ) : Type 0 where

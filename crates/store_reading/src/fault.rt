@@ -15,6 +15,9 @@ pub enum FileFault {
     /// An entry of a segment is of another day; `at` is the position of its first digit.
     #[error("another day at {at}")]
     OtherDay { at: u64 },
+    /// The SHA-256 of a segment is not the one in its name.
+    #[error("another digest")]
+    Digest,
 }
 
 /// Why a folder was not read.

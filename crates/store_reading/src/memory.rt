@@ -5,21 +5,23 @@ ghost use Rattle.archive_text.specs.EntryViews.{entry_of};
 ghost use Rattle.archive_text.specs.Text.{IsArchive, text_of};
 ghost use Rattle.archive_join.specs.Ranges.{IsOfRange};
 ghost use Rattle.record_store.specs.Names.{IsSegment};
-ghost use Rattle.record_store.specs.Segments.{IsArchiveOfDay};
 ghost use Rattle.store_reading.specs.Causes.{IsCause, IsDamagedInMemory, IsListedInMemory, IsOfMemoryName};
 ghost use Rattle.store_reading.specs.Causes.{file_causes};
-ghost use Rattle.store_reading.specs.Damages.{IsDamagedSegment, OfLeft, Tells};
+ghost use Rattle.store_reading.specs.Damages.{IsDamagedArchive, IsDamagedSegment, OfLeft, Tells};
 ghost use Rattle.store_reading.specs.Folders.{AreNamesOf};
 ghost use Rattle.store_reading.specs.Journals.{Adds, AddsMixed, HasAsMixed, HasInMemory, IsOfMemory, NamedMemoryHas};
+ghost use Rattle.store_reading.specs.Segments.{IsHashed};
 ghost use Rattle.store_reading.specs.Sources.{set_entries};
-ghost use Rattle.store_reading.specs.Whole.{IsWholeInMemory, IsWholeSegmentAt, JournalsAreWhole, NamedMemoryIsWhole};
-ghost use Rattle.store_reading.specs.Whole.{SegmentsAreWhole};
+ghost use Rattle.store_reading.specs.Whole.{IsWholeInMemory, IsWholeSegment, IsWholeSegmentAt, JournalsAreWhole};
+ghost use Rattle.store_reading.specs.Whole.{NamedMemoryIsWhole, SegmentsAreWhole};
 
 use crate::fault::{CheckFault, ReadFault};
 use crate::folder::Folder;
+use crate::hashing::{HEX_LEN, check_digest, hash_entry, hexadecimal};
 use crate::journals::{add_entry, add_journal};
 use crate::listing::{LISTINGS, list};
 use crate::names::is_mixed;
+use crate::period::Period;
 use crate::segment::open_file;
 use archive_pages::PagedArchive;
 use archive_sets::{Condition, InRange};
@@ -27,6 +29,7 @@ use archive_streams::ArchiveEntries;
 use archive_text::{ENTRY_MAX, EntryView, Store};
 use disk::FileName;
 use octet_devices::{Input, ToWrite};
+use sha2::{Digest, Sha256};
 use std::alloc::Global;
 
 // Adds an entry to a set, where it is of the range.
@@ -48,25 +51,47 @@ fn add_of_range(
     add_entry(alloc, set, entry)
 }
 
-// Adds the entries of the range that a mixed segment has, which is read to its end.
+// Adds the entries of the range that a mixed segment has, which is read to its end. Gives its SHA-256 in
+// lower-case hexadecimal.
 fn add_entries<R: Input>(
     alloc: Global,
     set: &mut PagedArchive,
     range: &InRange,
     reader: &mut R,
+) -> Result<[u8; HEX_LEN], CheckFault>
+    ensures adds { OnOk result (AddsMixed range.now (R.state reader.old) (set_entries set.old)
+        (set_entries set.new)) }
+    ensures hashed { IfOk result (λ hex. IsHashed (codes "mixed") (R.state reader.old)
+        (R.state reader.new) hex) }
+    ensures damaged { IfErr result (λ fault. OfLeft (R.state reader.old) (λ file.
+        Tells fault (IsDamagedArchive (codes "mixed") file))) }
+{
+    let mut entries = ArchiveEntries::new(alloc)?;
+    let mut hasher = Sha256::new();
+    'entries: while entries.next(reader)? {
+        let entry = entries.entry();
+        let _ = hash_entry(&mut hasher, entry.octets);
+        add_of_range(alloc, set, range, &entry)?;
+    }
+    Ok(hexadecimal(hasher))
+}
+
+// Adds the entries of the range that the mixed segment of a name has.
+fn add_segment<R: Input>(
+    alloc: Global,
+    set: &mut PagedArchive,
+    range: &InRange,
+    name: &[u8],
+    reader: &mut R,
 ) -> Result<(), CheckFault>
     ensures adds { OnOk result (AddsMixed range.now (R.state reader.old) (set_entries set.old)
         (set_entries set.new)) }
-    ensures whole { OnOk result (IfSome (R.state reader.old).left (IsArchiveOfDay (codes "mixed"))) }
+    ensures whole { OnOk result (OfLeft (R.state reader.old) (IsWholeSegment (codes "mixed") name.now)) }
     ensures damaged { IfErr result (λ fault. OfLeft (R.state reader.old) (λ file.
-        Tells fault (IsDamagedSegment (codes "mixed") file))) }
+        Tells fault (IsDamagedSegment (codes "mixed") name.now file))) }
 {
-    let mut entries = ArchiveEntries::new(alloc)?;
-    'entries: while entries.next(reader)? {
-        let entry = entries.entry();
-        add_of_range(alloc, set, range, &entry)?;
-    }
-    Ok(())
+    let hex = add_entries(alloc, set, range, reader)?;
+    check_digest(alloc, name, &Period::mixed(), &hex)
 }
 
 // Adds what is of the range in the file of a name, where that is a mixed segment.
@@ -85,13 +110,13 @@ fn add_mixed<F: Folder>(
     ensures told { F.tells folder.new → F.tells folder.old }
     ensures cause { IfErr result (IsCause (file_causes (F.tells folder.new) (F.has_failed folder.new)
         (F.files folder.old) (λ (n : List ℕ). (n ≡ name.now) × IsSegment (codes "mixed") n)
-        (λ _. IsDamagedSegment (codes "mixed")))) }
+        (IsDamagedSegment (codes "mixed")))) }
 {
     if !is_mixed(name.as_octets()) {
         return Ok(());
     }
     let mut file = open_file(alloc, folder, name)?;
-    match add_entries(alloc, set, range, &mut file) {
+    match add_segment(alloc, set, range, name.as_octets(), &mut file) {
         Ok(()) => Ok(()),
         Err(fault) => Err(fault.of(name.copy(alloc)?)),
     }

@@ -47,7 +47,7 @@ fn open_named<F: Folder>(
     ensures told { F.tells folder.new → F.tells folder.old }
     ensures cause { IfErr result (IsCause (file_causes (F.tells folder.new) (F.has_failed folder.new)
         (F.files folder.old) (λ (n : List ℕ). (n ≡ name.now) × IsSegment period.now n)
-        (λ _. IsDamagedSegment period.now))) }
+        (IsDamagedSegment period.now))) }
 {
     if !is_segment_of(name.as_octets(), period) {
         return Ok(());
@@ -75,7 +75,7 @@ pub fn open_segments<'a, F: Folder>(
     ensures same { F.tells folder.new → F.files folder.new ≡ F.files folder.old }
     ensures told { F.tells folder.new → F.tells folder.old }
     ensures cause { IfErr result (IsCause (file_causes (F.tells folder.new) (F.has_failed folder.new)
-        (F.files folder.old) (IsListedSegment names.now period.now) (λ _. IsDamagedSegment period.now))) }
+        (F.files folder.old) (IsListedSegment names.now period.now) (IsDamagedSegment period.now))) }
 {
     let mut inputs = Vec::new(alloc);
     'names: for name in names {
@@ -98,7 +98,7 @@ fn open_listed<'a, F: Folder>(
     ensures same { F.tells folder.new → F.files folder.new ≡ F.files folder.old }
     ensures told { F.tells folder.new → F.tells folder.old }
     ensures cause { IfErr result (IsCause (file_causes (F.tells folder.new) (F.has_failed folder.new)
-        (F.files folder.old) (IsListedSegment names.now period.now) (λ _. IsDamagedSegment period.now))) }
+        (F.files folder.old) (IsListedSegment names.now period.now) (IsDamagedSegment period.now))) }
 {
     open_segments(alloc, folder, names.of(period.as_octets()), period)
 }
@@ -121,7 +121,7 @@ pub(crate) fn open_period<'a, F: Folder>(
     ensures told { F.tells folder.new → F.tells folder.old }
     ensures cause { IfErr result (IsCause (file_causes (F.tells folder.new) (F.has_failed folder.new)
         (F.files folder.old) (IsListedSegment names.new period.now)
-        (λ _. IsDamagedSegment period.now))) }
+        (IsDamagedSegment period.now))) }
 {
     'listings: for _ in 0..LISTINGS {
         match open_listed(alloc, folder, names, period) {

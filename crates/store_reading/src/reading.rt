@@ -109,7 +109,7 @@ fn day_inputs<'a, F: Folder>(
     ensures told { F.tells folder.new → F.tells folder.old }
     ensures cause { IfErr result (IsCause (file_causes (F.tells folder.new) (F.has_failed folder.new)
         (F.files folder.old) (IsListedSegment names.new day.now)
-        (λ _. IsDamagedSegment day.now))) }
+        (IsDamagedSegment day.now))) }
 {
     let mut inputs = open_period(alloc, folder, names, &Period::of(day))?;
     inputs.push(Source::Octets(FromRead::new(text)))?;

@@ -8,9 +8,12 @@ use std::{env, fs, process};
 use store_engine::{NoStore, SystemFolder, read_store, report_no_store};
 use store_reading::Folder;
 
-// the names and the octets of segments
+// the name of a segment, and that of another; their octets are B
 const FIRST: &[u8] =
-    b"2024-02-29.f9b4d0a3d46c1ff7bd0e8bb7ad0d2e2ce3b1e0b0d5d6d0f0c1e0b0d5d6d0f0c1.archive";
+    b"2024-02-29.143260abab3d41d3e9860999c599619802b3353737d9e846bc1d40c266256871.archive";
+
+const OTHER: &[u8] =
+    b"2024-02-29.5555555555555555555555555555555555555555555555555555555555555555.archive";
 
 const A: &[u8] = b"19 <13>1 - h a - - - x";
 
@@ -62,7 +65,7 @@ fn put(alloc: Global, disk: &mut MemoryDisk, name: &[u8], texts: &[&[u8]]) -> Re
     Ok(())
 }
 
-// a folder of a segment, whose digest is another, and of a journal
+// a folder of a segment and of a journal
 fn stored(alloc: Global) -> Result<MemoryDisk, Fail> {
     let mut disk = MemoryDisk::new(alloc);
     put(alloc, &mut disk, FIRST, &[B])?;
@@ -112,6 +115,18 @@ fn a_damaged_file_is_told_with_its_name(rt: HostRuntime) -> Result<(), Fail> {
     assert_eq!(rt; status, 1);
     assert!(rt; text == joined(alloc, &[A])?);
     assert!(rt; line == joined(alloc, &[FIRST, b" bad-entry 0 syntax priority 2\n"])?);
+    Ok(())
+}
+
+#[test]
+fn a_segment_with_the_name_of_another_is_told(rt: HostRuntime) -> Result<(), Fail> {
+    let alloc = rt.alloc();
+    let mut disk = stored(alloc)?;
+    put(alloc, &mut disk, OTHER, &[B])?;
+    let (status, text, line) = read_of(alloc, &mut make_view(disk))?;
+    assert_eq!(rt; status, 1);
+    assert!(rt; text == joined(alloc, &[A])?);
+    assert!(rt; line == joined(alloc, &[OTHER, b" digest\n"])?);
     Ok(())
 }
 

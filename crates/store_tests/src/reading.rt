@@ -8,15 +8,15 @@ use std::test::Fail;
 use store_reading::{FileFault, Folder, ReadFault, read};
 use syslog_value::Instant;
 
-// names of segments
+// names of segments: that of B, that of B and C, that of D, and one that is no archive
 const FIRST: &[u8] =
-    b"2024-02-29.1111111111111111111111111111111111111111111111111111111111111111.archive";
+    b"2024-02-29.143260abab3d41d3e9860999c599619802b3353737d9e846bc1d40c266256871.archive";
 
 const ALSO: &[u8] =
-    b"2024-02-29.2222222222222222222222222222222222222222222222222222222222222222.archive";
+    b"2024-02-29.3b7f5f5ea6ffaba736858dbcd3dbdc58db65625c0e79aa6f318e353cf66244e0.archive";
 
 const LATER: &[u8] =
-    b"2024-03-01.3333333333333333333333333333333333333333333333333333333333333333.archive";
+    b"2024-03-01.b1cd91380b71e440fc0789dd005e092c64be3876abe66744b9b05105f75f863a.archive";
 
 const DAMAGED: &[u8] =
     b"2024-03-02.4444444444444444444444444444444444444444444444444444444444444444.archive";
@@ -253,18 +253,22 @@ fn files_that_a_listing_misses_are_read(rt: HostRuntime) -> Result<(), Fail> {
     Ok(())
 }
 
-// An octet of a segment is another one: it is still an archive of its day, or that segment is told,
-// and only the days before it were written.
+// An octet of a segment is another one: that segment is told, even if it is still an archive of its day,
+// and only the days before it were written. Two octets stay the same.
 #[test]
 fn a_damaged_segment_is_told(rt: HostRuntime) -> Result<(), Fail> {
     let alloc = rt.alloc();
     let name = FileName::new(alloc, ALSO)?.ok_or("no name")?;
+    let mut same = 0;
     for at in 0..96 {
         let mut disk = stored(alloc)?;
         disk.overwrite(&name, at, b'9')?;
         let (answer, text) = written(alloc, &mut make_view(disk), ALL)?;
         match &answer {
-            Ok(()) => assert!(rt; text.starts_with(A), "{at}"),
+            Ok(()) => {
+                same += 1;
+                assert!(rt; text == joined(alloc, &[A, B, C, D])?, "{at}");
+            }
             Err(ReadFault::Damaged { name, fault: _ }) => {
                 assert!(rt; name.as_octets() == ALSO, "{at}");
                 assert!(rt; text.as_slice() == A, "{at}");
@@ -272,6 +276,7 @@ fn a_damaged_segment_is_told(rt: HostRuntime) -> Result<(), Fail> {
             Err(_) => assert!(rt; false, "{at}"),
         }
     }
+    assert_eq!(rt; same, 2);
     Ok(())
 }
 

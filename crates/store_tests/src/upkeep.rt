@@ -9,8 +9,8 @@ use sha2::{Digest, Sha256};
 use std::alloc::{AllocError, Global};
 use std::io::Cursor;
 use std::test::Fail;
-use store_reading::{Folder, ReadFault};
-use store_upkeep::{Damage, DamagedFile, verify};
+use store_reading::{FileFault, Folder, ReadFault};
+use store_upkeep::{DamagedFile, verify};
 
 // entries, in their order
 const UNDATED: &[u8] = b"19 <13>1 - h a - - - x";
@@ -134,7 +134,7 @@ fn damage_in(
 }
 
 // whether this is the one file that is damaged
-fn is_only(damaged: &[DamagedFile], name: &[u8], damage: Damage) -> bool {
+fn is_only(damaged: &[DamagedFile], name: &[u8], damage: FileFault) -> bool {
     match damaged {
         [one] => one.name.as_octets() == name && one.damage == damage,
         _ => false,
@@ -158,7 +158,7 @@ fn each_kind_of_damage_is_told(rt: HostRuntime) -> Result<(), Fail> {
     put(alloc, &mut disk, &name, &entry(alloc, b'a')?)?;
     let (answer, damaged) = damage_in(alloc, &mut disk)?;
     assert!(rt; answer.is_ok());
-    assert!(rt; is_only(&damaged, &name, Damage::Digest));
+    assert!(rt; is_only(&damaged, &name, FileFault::Digest));
 
     let mut disk = stored(alloc, 0)?;
     let mut text = entry(alloc, b'a')?;
@@ -166,7 +166,7 @@ fn each_kind_of_damage_is_told(rt: HostRuntime) -> Result<(), Fail> {
     let name = segment_name(alloc, DAY, &text)?;
     put(alloc, &mut disk, &name, &text)?;
     let (_, damaged) = damage_in(alloc, &mut disk)?;
-    assert!(rt; is_only(&damaged, &name, Damage::OtherDay { at: 48 }));
+    assert!(rt; is_only(&damaged, &name, FileFault::OtherDay { at: 48 }));
 
     let mut disk = stored(alloc, 0)?;
     text.push(b'4')?;
@@ -174,7 +174,7 @@ fn each_kind_of_damage_is_told(rt: HostRuntime) -> Result<(), Fail> {
     put(alloc, &mut disk, &name, UNDATED)?;
     disk.append(&FileName::new(alloc, &name)?.ok_or("no name")?, b"4")?;
     let (_, damaged) = damage_in(alloc, &mut disk)?;
-    let fault = Damage::Archive(ArchiveFault::BadFrame { at: 23 });
+    let fault = FileFault::Archive(ArchiveFault::BadFrame { at: 23 });
     assert!(rt; is_only(&damaged, &name, fault));
     Ok(())
 }
@@ -192,7 +192,7 @@ fn a_batch_that_is_damaged_is_told(rt: HostRuntime) -> Result<(), Fail> {
             damaged.as_slice(),
             [DamagedFile {
                 name: _,
-                damage: Damage::Archive(ArchiveFault::BadEntry { at: 5, .. }),
+                damage: FileFault::Archive(ArchiveFault::BadEntry { at: 5, .. }),
             }]
         )
     );

@@ -29,14 +29,15 @@ use Rattle.record_store.specs.Segments.{IsSegmentOf, segment_name}
 use Rattle.record_store.proofs.Folders.{held_counts}
 use Rattle.record_store.proofs.Named.{not_both}
 use Rattle.store_reading.specs.Folders.{IsUnused, Opens}
-use Rattle.store_reading.specs.Segments.{AreArchives, AreSegmentsOf, IsArchiveInput, IsSegmentInput, NamesHave}
+use Rattle.store_reading.specs.Segments.{AreArchives, AreSegmentsOf, IsArchiveInput, IsHashed, IsSegmentInput, NamesHave}
 use Rattle.store_reading.proofs.Held.{segment_held, no_name}
 use Rattle.store_reading.proofs.Joined.{rest_of, whole_rest}
 use Rattle.store_reading.specs.Damages.{OfLeft}
 use Rattle.store_reading.proofs.Damaged.{file_is}
+use Rattle.store_reading.proofs.Segments.{segment_input}
 use Rattle.store_upkeep.specs.Compaction.{AreDayNames, AreListed, IsJoinOf, MayBePlaced, shown}
-use Rattle.store_upkeep.specs.Damages.{IsHashed}
-use Rattle.store_upkeep.specs.Whole.{IsWholeAt, IsWholeSegment}
+use Rattle.store_reading.specs.Whole.{IsWholeSegment}
+use Rattle.store_upkeep.specs.Whole.{IsWholeAt}
 use Rattle.store_upkeep.proofs.Verdicts.{day_named}
 
 -- ---- names
@@ -76,24 +77,6 @@ day_names_more names found last day a segment = record {
 
 -- ---- a segment is opened
 
-input_at : (files : Files) (name day : List ℕ) (c d : InputState) (o : Option (List ℕ)) → files name ≡ o
-    → IsSomeAnd o (λ octets. c.left ≡ Some octets) → OfLeft c (IsWholeSegment day name)
-    → IsSomeAnd o (λ octets. d.left ≡ Some octets) → IsUnused d → IsSegmentInput files name day d
-input_at files name day c d None is opened whole again unused = absurd opened
-input_at files name day c d (Some file) is opened whole again unused =
-    let w = whole file opened in
-    record {
-      entries = w.entries;
-      input = record { unused = unused; left = again ∙ ap Some w.archive.text_is; archive = w.archive.archive };
-      file = is ∙ ap Some w.archive.text_is;
-      days = w.archive.days;
-    }
-
-pub whole_input : (files : Files) (name day : List ℕ) (c d : InputState) → Opens files name c
-    → OfLeft c (IsWholeSegment day name) → Opens files name d → IsUnused d → IsSegmentInput files name day d
-whole_input files name day c d opened whole again unused =
-    input_at files name day c d (files name) refl opened whole again unused
-
 -- what is opened of a file that is shown still
 opens_at : (one two : Files) (name : List ℕ) (d : InputState) → two name ≡ one name → Opens two name d
     → Opens one name d
@@ -111,7 +94,7 @@ pub input_result : {F E : Type 0} (state : F → InputState) (old mid : State) (
     → IfOk r (λ file. IsSegmentInput (shown old) name day (state file))
 input_result state old mid name day d (Err e) same opened whole again unused = tt
 input_result state old mid name day d (Ok file) same opened whole again unused =
-    whole_input (shown old) name day d (state file) opened whole (opens_still old mid name (state file) same again) unused
+    segment_input (shown old) name day d (state file) opened whole (opens_still old mid name (state file) same again) unused
 
 pub input_still : (old new : State) (name day : List ℕ) (d : InputState) → IsUnchanged old new
     → IsSegmentInput (shown new) name day d → IsSegmentInput (shown old) name day d
@@ -120,6 +103,7 @@ input_still old new name day d same i = record {
   input = i.input;
   file = sym (ap shown_now (same.entries name)) ∙ i.file;
   days = i.days;
+  named = i.named;
 }
 
 -- what is whole of a file that is shown still

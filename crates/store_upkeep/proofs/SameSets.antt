@@ -25,7 +25,8 @@ use Rattle.record_store.proofs.Leavings.{only_is, replaced_leaves, settled_may, 
 use Rattle.record_store.proofs.Named.{not_both, same_or_apart}
 use Rattle.record_store.proofs.Placed.{is_put}
 use Rattle.store_upkeep.specs.Compaction.{HasAll, KeepsSet, MayBePlaced, RemovesOther, ShowsLess, shown}
-use Rattle.store_upkeep.specs.Whole.{IsWholeAt, IsWholeFile, IsWholeSegment}
+use Rattle.store_reading.specs.Whole.{IsWholeSegment}
+use Rattle.store_upkeep.specs.Whole.{IsWholeAt, IsWholeFile}
 use Rattle.store_upkeep.proofs.Verdicts.{day_named}
 
 -- ---- steps behind one another

@@ -11,15 +11,15 @@ use Rattle.record_store.specs.Names.{IsJournal, IsSegment}
 use Rattle.record_store.proofs.Named.{not_both}
 use Rattle.store_reading.specs.Days.{IsPeriodText}
 use Rattle.store_reading.specs.Folders.{AreNamesOf, Opens}
-use Rattle.store_reading.specs.Damages.{OfLeft}
-use Rattle.store_upkeep.specs.Damages.{AddsTo, AreAsTold, AreDamaged, IsDamageOf, IsFoundBy, IsJournalDamage}
-use Rattle.store_upkeep.specs.Damages.{IsSegmentDamage, IsToldAt, IsVerdict, IsWholeOrListed, Refutes, Tells}
-use Rattle.store_upkeep.specs.Damages.{names_of}
-use Rattle.store_upkeep.specs.Whole.{IsDamagedAt, IsWholeAt, IsWholeFile, IsWholeSegment}
+use Rattle.store_reading.specs.Damages.{IsDamagedJournal, IsDamagedSegment, IsSegmentDamage, OfLeft, Tells}
+use Rattle.store_reading.specs.Whole.{IsWholeSegment}
+use Rattle.store_reading.specs.declared.fault.CheckFault.{CheckFault}
+use Rattle.store_reading.specs.declared.fault.CheckFault.TheVariants.{Damaged, Input, Memory}
+use Rattle.store_reading.specs.declared.fault.FileFault.{FileFault}
+use Rattle.store_upkeep.specs.Damages.{AddsTo, AreAsTold, AreDamaged, IsDamageOf, IsFoundBy, IsToldAt, IsVerdict}
+use Rattle.store_upkeep.specs.Damages.{IsWholeOrListed, names_of}
+use Rattle.store_upkeep.specs.Whole.{IsDamagedAt, IsWholeAt, IsWholeFile}
 use Rattle.record_store.specs.Holdings.{IsWholeJournal}
-use Rattle.store_upkeep.specs.declared.damage.CheckFault.{CheckFault}
-use Rattle.store_upkeep.specs.declared.damage.CheckFault.TheVariants.{Damaged, Input, Memory}
-use Rattle.store_upkeep.specs.declared.damage.Damage.{Damage}
 use Rattle.store_upkeep.specs.declared.damage.DamagedFile.{DamagedFile}
 
 -- ---- a file that is not there
@@ -92,61 +92,59 @@ other_whole_at files name no_journal no_segment file is = record {
 }
 
 -- what a check found of a file that was opened
-found_verdict : (files : Files) (name : List ℕ) (d : InputState) (fault : CheckFault) (found : Option Damage)
+found_verdict : (files : Files) (name : List ℕ) (d : InputState) (fault : CheckFault) (found : Option FileFault)
     → Opens files name d → OfLeft d (λ file. Tells fault (IsDamageOf name file)) → IsFoundBy fault found
     → IsVerdict found files name
 found_verdict files name d (Damaged damage) found opened told is =
-    subst (λ (o : Option Damage). IsVerdict o files name) (sym is)
+    subst (λ (o : Option FileFault). IsVerdict o files name) (sym is)
     (some_where (files name) d.left (λ (file : List ℕ). IsDamageOf name file damage) opened told)
 found_verdict files name d (Input fault) found opened told is = absurd is
 found_verdict files name d Memory found opened told is = absurd is
 
 result_verdict : {E : Type 0} (files : Files) (name : List ℕ) (d : InputState) (fault : CheckFault)
-    (r : Result (Option Damage) E) → Opens files name d → OfLeft d (λ file. Tells fault (IsDamageOf name file))
+    (r : Result (Option FileFault) E) → Opens files name d → OfLeft d (λ file. Tells fault (IsDamageOf name file))
     → IfOk r (IsFoundBy fault) → IfOk r (λ found. IsVerdict found files name)
 result_verdict files name d fault (Ok found) opened told is = found_verdict files name d fault found opened told is
 result_verdict files name d fault (Err e) opened told is = tt
 
 segment_told : (name day file : List ℕ) (fault : CheckFault) → IsPeriodText day → IsSegment day name
-    → Refutes fault (IsWholeSegment day name file) → Tells fault (IsSegmentDamage day name file)
-    → Tells fault (IsDamageOf name file)
-segment_told name day file (Damaged damage) text segment refuted told = record {
-  not_whole = λ w. refuted (w.segment day text segment);
+    → Tells fault (IsDamagedSegment day name file) → Tells fault (IsDamageOf name file)
+segment_told name day file (Damaged damage) text segment told = record {
+  not_whole = λ w. told.not_whole (w.segment day text segment);
   journal = λ journal. absurd (not_both day name journal segment);
   segment = λ other dated named. subst (λ (x : List ℕ). IsSegmentDamage x name file damage)
-      (day_named day other name segment named) told;
+      (day_named day other name segment named) told.told;
 }
-segment_told name day file (Input fault) text segment refuted told = tt
-segment_told name day file Memory text segment refuted told = tt
+segment_told name day file (Input fault) text segment told = tt
+segment_told name day file Memory text segment told = tt
 
-journal_told : (name file : List ℕ) (fault : CheckFault) → IsJournal name → Refutes fault (IsWholeJournal file)
-    → Tells fault (IsJournalDamage file) → Tells fault (IsDamageOf name file)
-journal_told name file (Damaged damage) journal refuted told = record {
-  not_whole = λ w. refuted (w.journal journal);
-  journal = λ named. told;
+journal_told : (name file : List ℕ) (fault : CheckFault) → IsJournal name → Tells fault (IsDamagedJournal file)
+    → Tells fault (IsDamageOf name file)
+journal_told name file (Damaged damage) journal told = record {
+  not_whole = λ w. told.not_whole (w.journal journal);
+  journal = λ named. told.told;
   segment = λ day dated named. absurd (not_both day name journal named);
 }
-journal_told name file (Input fault) journal refuted told = tt
-journal_told name file Memory journal refuted told = tt
+journal_told name file (Input fault) journal told = tt
+journal_told name file Memory journal told = tt
 
 pub segment_verdict : {E : Type 0} (files : Files) (name day : List ℕ) (d : InputState) (fault : CheckFault)
-    (r : Result (Option Damage) E) → IsPeriodText day → IsSegment day name → Opens files name d
-    → OfLeft d (λ file. Refutes fault (IsWholeSegment day name file))
-    → OfLeft d (λ file. Tells fault (IsSegmentDamage day name file)) → IfOk r (IsFoundBy fault)
+    (r : Result (Option FileFault) E) → IsPeriodText day → IsSegment day name → Opens files name d
+    → OfLeft d (λ file. Tells fault (IsDamagedSegment day name file)) → IfOk r (IsFoundBy fault)
     → IfOk r (λ found. IsVerdict found files name)
-segment_verdict files name day d fault r text segment opened refuted told found =
+segment_verdict files name day d fault r text segment opened told found =
     result_verdict files name d fault r opened
-    (λ file left. segment_told name day file fault text segment (refuted file left) (told file left)) found
+    (λ file left. segment_told name day file fault text segment (told file left)) found
 
 pub journal_verdict : {E : Type 0} (files : Files) (name : List ℕ) (d : InputState) (fault : CheckFault)
-    (r : Result (Option Damage) E) → IsJournal name → Opens files name d
-    → OfLeft d (λ file. Refutes fault (IsWholeJournal file)) → OfLeft d (λ file. Tells fault (IsJournalDamage file))
-    → IfOk r (IsFoundBy fault) → IfOk r (λ found. IsVerdict found files name)
-journal_verdict files name d fault r journal opened refuted told found =
+    (r : Result (Option FileFault) E) → IsJournal name → Opens files name d
+    → OfLeft d (λ file. Tells fault (IsDamagedJournal file)) → IfOk r (IsFoundBy fault)
+    → IfOk r (λ found. IsVerdict found files name)
+journal_verdict files name d fault r journal opened told found =
     result_verdict files name d fault r opened
-    (λ file left. journal_told name file fault journal (refuted file left) (told file left)) found
+    (λ file left. journal_told name file fault journal (told file left)) found
 
-told_damaged : (o : Option (List ℕ)) (name : List ℕ) (damage : Damage)
+told_damaged : (o : Option (List ℕ)) (name : List ℕ) (damage : FileFault)
     → IsSomeAnd o (λ file. IsDamageOf name file damage) → IsSomeAnd o (λ file. ¬ (IsWholeFile name file))
 told_damaged None name damage told = absurd told
 told_damaged (Some file) name damage told = told.not_whole

@@ -1,17 +1,10 @@
 -- Files of a store that are whole.
 use Rattle.std.specs.Prelude.{◌≡◌, ℕ, List, Some, IsSomeAnd}
 use Rattle.disk.specs.States.{Files}
-use Rattle.archive_text.specs.Entries.{Entry}
 use Rattle.record_store.specs.Holdings.{IsWholeJournal}
 use Rattle.record_store.specs.Names.{IsJournal, IsSegment}
-use Rattle.record_store.specs.Segments.{IsSegmentOf, segment_name}
 use Rattle.store_reading.specs.Days.{IsPeriodText}
-
--- a segment is the archive of entries of its period, and its name has the SHA-256 of its octets
-pub record IsWholeSegment (day name file : List ℕ) : Type 0 where
-  pub entries : List Entry
-  pub archive : IsSegmentOf day file entries
-  pub named : name ≡ segment_name day file
+use Rattle.store_reading.specs.Whole.{IsWholeSegment}
 
 -- a file is whole, as a journal or as a segment where its name is that of one
 pub record IsWholeFile (name file : List ℕ) : Type 0 where

@@ -1,10 +1,9 @@
 //! Why a store was not compacted.
 ghost use Rattle.store_upkeep.specs.Faults.{IsOrNoMemory, check_told};
 
-use crate::damage::{CheckFault, Damage, DamagedFile, damage_of};
 use disk::{DiskFault, FileName};
 use std::alloc::{AllocError, AllocFailed, Global};
-use store_reading::ReadFault;
+use store_reading::{CheckFault, FileFault, ReadFault};
 use thiserror::Error;
 
 /// Why the segments of a store were not all joined, and at which file.
@@ -15,7 +14,7 @@ pub enum CompactFault {
     Read(ReadFault),
     /// A segment is damaged: nothing of its day is removed.
     #[error("a file: {damage}")]
-    Damaged { name: FileName, damage: Damage },
+    Damaged { name: FileName, damage: FileFault },
     /// A file could not be written, removed or given its name.
     #[error("a file: {fault}")]
     Write { name: FileName, fault: DiskFault },
@@ -54,7 +53,7 @@ impl From<ReadFault> for CompactFault {
         match fault {
             ReadFault::Damaged { name, fault } => CompactFault::Damaged {
                 name,
-                damage: damage_of(fault),
+                damage: fault,
             },
             fault => CompactFault::Read(fault),
         }

@@ -1,14 +1,12 @@
 //! A journal is checked.
 ghost use Rattle.std.specs.Prelude.{◌+◌, ◌<◌, ◌^◌, IfErr, OnErr, OnOk, length};
-ghost use Rattle.store_reading.specs.Damages.{IsBatchFault, IsJournalFault, OfLeft};
-ghost use Rattle.store_upkeep.specs.Damages.{IsJournalDamage, Refutes, Tells};
+ghost use Rattle.store_reading.specs.Damages.{IsBatchFault, IsDamagedJournal, OfLeft, Tells};
 ghost use Rattle.record_store.specs.Holdings.{IsReadable, IsWholeJournal};
 
-use crate::damage::{CheckFault, Damage};
 use archive_text::{ArchiveFault, ENTRY_MAX, read_entry};
 use octet_devices::Input;
 use std::alloc::Global;
-use store_reading::{CheckFault as ReadingFault, first_batch, read_octets};
+use store_reading::{CheckFault, FileFault, first_batch, read_octets};
 
 // Whether a batch, which begins at an offset of its journal, is a sequence of entries.
 fn check_batch(body: &[u8], offset: u64) -> Result<(), ArchiveFault>
@@ -33,8 +31,7 @@ fn check_batch(body: &[u8], offset: u64) -> Result<(), ArchiveFault>
 // Whether each batch of a journal is a sequence of entries.
 fn check_batches(file: &[u8]) -> Result<(), ArchiveFault>
     ensures ok { OnOk result (IsWholeJournal file.now) }
-    ensures err { OnErr result (¬ (IsWholeJournal file.now)) }
-    ensures told { IfErr result (IsJournalFault file.now) }
+    ensures damaged { IfErr result (λ fault. IsDamagedJournal file.now (FileFault.Archive fault)) }
 {
     let mut rest = file;
     'batches: while let Some((body, behind)) = first_batch(rest) {
@@ -51,17 +48,11 @@ fn check_batches(file: &[u8]) -> Result<(), ArchiveFault>
 pub(crate) fn check_journal<R: Input>(alloc: Global, reader: &mut R) -> Result<(), CheckFault>
     ensures whole { OnOk result (OfLeft (R.state reader.old) IsWholeJournal) }
     ensures damaged { IfErr result (λ fault. OfLeft (R.state reader.old) (λ file.
-        Refutes fault (IsWholeJournal file))) }
-    ensures told { IfErr result (λ fault. OfLeft (R.state reader.old) (λ file.
-        Tells fault (IsJournalDamage file))) }
+        Tells fault (IsDamagedJournal file))) }
 {
-    let octets = match read_octets(alloc, reader) {
-        Ok(octets) => octets,
-        Err(ReadingFault::Input(fault)) => return Err(CheckFault::Input(fault)),
-        Err(_) => return Err(CheckFault::Memory),
-    };
+    let octets = read_octets(alloc, reader)?;
     match check_batches(&octets) {
         Ok(()) => Ok(()),
-        Err(fault) => Err(CheckFault::Damaged(Damage::Archive(fault))),
+        Err(fault) => Err(CheckFault::Damaged(FileFault::Archive(fault))),
     }
 }

@@ -5,9 +5,7 @@
 mod compact_fault;
 mod compaction;
 mod damage;
-mod hashing;
 mod journal_check;
-mod segment_check;
 mod segments;
 mod stream_disk;
 mod verification;
@@ -15,7 +13,7 @@ mod whole_files;
 
 pub use compact_fault::CompactFault;
 pub use compaction::{SEGMENTS_MAX, compact};
-pub use damage::{Damage, DamagedFile, damage_of};
+pub use damage::DamagedFile;
 pub use stream_disk::StreamDisk;
 pub use verification::verify;
 pub use whole_files::WholeFiles;

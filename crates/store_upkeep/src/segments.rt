@@ -11,13 +11,14 @@ ghost use Rattle.store_upkeep.specs.Compaction.{AreDayNames, AreListed, AreWhole
 ghost use Rattle.store_upkeep.specs.Whole.{IsWholeAt};
 
 use crate::compact_fault::{CompactFault, check_fault, open_fault, write_fault};
-use crate::hashing::segment_octets;
-use crate::segment_check::{check_segment, hash_segment};
 use crate::stream_disk::StreamDisk;
 use archive_join::{JoinFault, Union, join_streams};
 use disk::{Disk, DiskFault, FileName};
 use std::alloc::{AllocError, Global};
-use store_reading::{Names, Period, ReadFault, is_segment_of, join_fault};
+use store_reading::{
+    Names, Period, ReadFault, check_segment, hash_segment, is_segment_of, join_fault,
+    segment_octets,
+};
 
 /// The names of all files, those of the segments of a period side by side, in the order of their
 /// octets.

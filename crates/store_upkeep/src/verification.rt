@@ -7,12 +7,14 @@ ghost use Rattle.store_upkeep.specs.Causes.{IsCounted, IsCountedFile, IsListedFi
 ghost use Rattle.store_upkeep.specs.Damages.{AddsTo, AreAsTold, AreDamaged, IsFoundBy, IsVerdict, IsWholeOrListed};
 ghost use Rattle.store_upkeep.specs.Damages.{OpensOrNone};
 
-use crate::damage::{CheckFault, Damage, DamagedFile};
+use crate::damage::DamagedFile;
 use crate::journal_check::check_journal;
-use crate::segment_check::check_segment;
 use disk::FileName;
 use std::alloc::Global;
-use store_reading::{Folder, Period, ReadFault, is_journal, list, open_file, segment_period};
+use store_reading::{
+    CheckFault, FileFault, Folder, Period, ReadFault, check_segment, is_journal, list, open_file,
+    segment_period,
+};
 
 // how often a file is opened that is there and gone
 const OPENINGS: usize = 64;
@@ -53,7 +55,11 @@ fn open_listed<F: Folder>(
 }
 
 // What the check of a file found, or why the file was not read.
-fn found_by(alloc: Global, name: &FileName, fault: CheckFault) -> Result<Option<Damage>, ReadFault>
+fn found_by(
+    alloc: Global,
+    name: &FileName,
+    fault: CheckFault,
+) -> Result<Option<FileFault>, ReadFault>
     ensures found { IfOk result (IsFoundBy fault) }
     ensures cause { IfErr result (IsCause (open_causes ⊥ name.now)) }
 {
@@ -73,7 +79,7 @@ fn check_segment_file<F: Folder>(
     folder: &mut F,
     name: &FileName,
     period: &Period,
-) -> Result<Option<Damage>, ReadFault>
+) -> Result<Option<FileFault>, ReadFault>
     ensures verdict { F.tells folder.new → IsPeriodText period.now → IsSegment period.now name.now →
         IfOk result (λ found. IsVerdict found (F.files folder.old) name.now) }
     ensures same { F.tells folder.new → F.files folder.new ≡ F.files folder.old }
@@ -94,7 +100,7 @@ fn check_journal_file<F: Folder>(
     alloc: Global,
     folder: &mut F,
     name: &FileName,
-) -> Result<Option<Damage>, ReadFault>
+) -> Result<Option<FileFault>, ReadFault>
     ensures verdict { F.tells folder.new → IsJournal name.now →
         IfOk result (λ found. IsVerdict found (F.files folder.old) name.now) }
     ensures same { F.tells folder.new → F.files folder.new ≡ F.files folder.old }
@@ -115,7 +121,7 @@ fn check_file<F: Folder>(
     alloc: Global,
     folder: &mut F,
     name: &FileName,
-) -> Result<Option<Damage>, ReadFault>
+) -> Result<Option<FileFault>, ReadFault>
     ensures verdict { F.tells folder.new →
         IfOk result (λ found. IsVerdict found (F.files folder.old) name.now) }
     ensures same { F.tells folder.new → F.files folder.new ≡ F.files folder.old }

@@ -6,8 +6,8 @@ use disk::{Disk, FileName, Fuse, MemoryDisk};
 use octet_devices::ToWrite;
 use std::alloc::Global;
 use std::test::Fail;
-use store_reading::read;
-use store_upkeep::{CompactFault, Damage, SEGMENTS_MAX, WholeFiles, compact, verify};
+use store_reading::{FileFault, read};
+use store_upkeep::{CompactFault, SEGMENTS_MAX, WholeFiles, compact, verify};
 
 // more than a file of these tests has
 const FILE_MAX: usize = 4096;
@@ -105,7 +105,7 @@ fn nothing_of_a_day_with_a_damaged_segment_is_removed(rt: HostRuntime) -> Result
     match answer {
         Err(CompactFault::Damaged { name, damage }) => {
             assert!(rt; name.as_octets() == damaged.as_slice());
-            assert_eq!(rt; damage, Damage::Digest);
+            assert_eq!(rt; damage, FileFault::Digest);
         }
         _ => return Err("not told".into()),
     }

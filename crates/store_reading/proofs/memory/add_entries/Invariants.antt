@@ -6,7 +6,7 @@ use Rattle.store_reading.proofs.memory.add_entries.Given as goal
 abbrev pub invariant-entries : goal.invariant-entries
 invariant-entries g l = record {
   unclosed : IsOpen l.entries;
-  added : MixedAdded l.range (set_entries l.fn.set) (set_entries l.set) l.entries (g.R.Input.state l.fn.reader)
+  added : MixedAdded l.range (set_entries l.fn.set) (set_entries l.set) l.entries l.hasher (g.R.Input.state l.fn.reader)
       (g.R.Input.state l.reader);
 }
 

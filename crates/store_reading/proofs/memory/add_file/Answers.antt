@@ -58,6 +58,6 @@ returns-clause-cause g c =
     let name = c.args.name.now in
     wider_result told failed failed (g.F.Folder.files c.add_journal.new.folder) (g.F.Folder.files c.args.folder.now)
     (λ (n : List ℕ). (n ≡ name) × IsSegment (codes "mixed") n) (λ (n : List ℕ). (n ≡ name) × IsOfMemoryName n)
-    (λ n. IsDamagedSegment (codes "mixed")) IsDamagedInMemory (λ same. same)
+    (IsDamagedSegment (codes "mixed")) IsDamagedInMemory (λ same. same)
     (λ t. c.add_journal.ensures.same (c.add_mixed.ensures.told t))
     (λ n is. (is.0, inr is.1)) (λ n file fault is so. inr (is.1, so)) c.add_mixed.result c.add_mixed.ensures.cause

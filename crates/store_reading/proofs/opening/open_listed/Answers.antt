@@ -41,5 +41,5 @@ returns-clause-cause g c =
     let failed = g.F.Folder.has_failed c.open_segments.new.folder in
     let day = c.args.period.now in
     file_result told failed failed files files (IsListedSegment c.of.result.now day)
-    (IsListedSegment c.args.names.now day) (λ n. IsDamagedSegment day) (λ same. same) (λ t. refl)
+    (IsListedSegment c.args.names.now day) (IsDamagedSegment day) (λ same. same) (λ t. refl)
     (λ name is. (c.of.ensures.within name is.0, is.1)) c.open_segments.result c.open_segments.ensures.cause

@@ -48,10 +48,10 @@ returns-in_err-open_named-clause-cause g c =
     let listed : Contains names name = subst (Contains names) (sym c.name-item.is)
     (Contains-get_or names c.names.name-index name c.names-test.true) in
     at_err c.from_residual.result c.in_err-open_named.field-0.0
-    (IsCause (file_causes tells failed before (IsListedSegment names day) (λ n. IsDamagedSegment day)))
+    (IsCause (file_causes tells failed before (IsListedSegment names day) (IsDamagedSegment day)))
     c.from_residual.ensures.1
     (file_cause tells failed failed (g.F.Folder.files c.names.folder) before
-    (λ (n : List ℕ). (n ≡ name) × IsSegment day n) (IsListedSegment names day) (λ n. IsDamagedSegment day) (λ same. same)
+    (λ (n : List ℕ). (n ≡ name) × IsSegment day n) (IsListedSegment names day) (IsDamagedSegment day) (λ same. same)
     (λ t. c.names.invariant.same (c.open_named.ensures.told t))
     (λ n is. (subst (Contains names) (sym is.0) listed, is.1)) c.in_err-open_named.field-0.0
     c.in_err-open_named.ensures.cause)

@@ -17,14 +17,13 @@ batches-preserved c =
           c.batches.invariant.checked c.in-Ok.ensures.ok first.1;
     }
 
-pub returns-in-Err-clause-err : goal.returns-in-Err-clause-err
-returns-in-Err-clause-err c h =
+pub returns-in-Err-clause-damaged : goal.returns-in-Err-clause-damaged
+returns-in-Err-clause-damaged c =
     let first = c.in-Some.ensures.some in
-    c.in-Err.ensures.err (whole_parts c.batches.rest.now c.in-Some.body.now c.in-Some.behind.now first.0 first.1
-    (c.batches.invariant.good.there h)).0
-
-pub returns-in-Err-clause-told : goal.returns-in-Err-clause-told
-returns-in-Err-clause-told c =
-    let first = c.in-Some.ensures.some in
-    journal_fault c.args.file.now c.batches.rest.now c.in-Some.body.now c.in-Some.behind.now _ c.in-Err.fault
-    c.batches.invariant.checked first.0 first.1 (omega arith) (omega arith) c.in-Err.ensures.told
+    record {
+      not_whole = λ h. c.in-Err.ensures.err
+          (whole_parts c.batches.rest.now c.in-Some.body.now c.in-Some.behind.now first.0 first.1
+          (c.batches.invariant.good.there h)).0;
+      told = journal_fault c.args.file.now c.batches.rest.now c.in-Some.body.now c.in-Some.behind.now _ c.in-Err.fault
+          c.batches.invariant.checked first.0 first.1 (omega arith) (omega arith) c.in-Err.ensures.told;
+    }

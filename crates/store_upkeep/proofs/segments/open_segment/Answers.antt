@@ -1,6 +1,6 @@
 use Rattle.std.proofs.Common.{List, ℕ, subst, ◌∙◌}
 use Rattle.store_reading.specs.Damages.{OfLeft}
-use Rattle.store_upkeep.specs.Whole.{IsWholeSegment}
+use Rattle.store_reading.specs.Whole.{IsWholeSegment}
 use Rattle.store_upkeep.specs.Compaction.{shown}
 use Rattle.store_upkeep.proofs.DayJoins.{input_result, on_ok}
 use Rattle.store_upkeep.proofs.Verdicts.{segment_whole_at}

@@ -10,4 +10,4 @@ pub returns-clause-verdict : goal.returns-clause-verdict
 returns-clause-verdict g c tells journal =
     journal_verdict (g.F.Folder.files c.args.folder.now) c.args.name.now (g.F.File.Input.state c.in-Some.file)
     c.in-Err.fault c.found_by.result journal (rw c.in-Some.is at (c.in_ok-file.ensures.opened tells))
-    c.in-Err.ensures.damaged c.in-Err.ensures.told c.found_by.ensures.found
+    c.in-Err.ensures.damaged c.found_by.ensures.found

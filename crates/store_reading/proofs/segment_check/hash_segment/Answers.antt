@@ -1,22 +1,25 @@
-use Rattle.std.proofs.Common.{List, ℕ, ap, rules, IsTrue, length, ◌∙◌}
+use Rattle.std.proofs.Common.{List, ℕ, ◌≡◌, ◌++◌, ap, false, rules, subst, IsTrue, length, ◌∙◌}
+use Rattle.sha2.specs.Hashers.{Holds256}
 use Rattle.syslog_frame.specs.Frames.{framed}
 use Rattle.syslog_frame.specs.declared.framing.Framing.TheVariants.{Counted}
 use Rattle.archive_text.specs.Entries.{Entry}
 use Rattle.archive_streams.specs.Entries.{current}
-use Rattle.store_reading.specs.Damages.{IsDamagedSegment, OfLeft, Tells, position}
+use Rattle.store_reading.specs.Damages.{IsDamagedArchive, OfLeft, Tells, position}
 use Rattle.store_reading.specs.Faults.{check_fault_of}
 use Rattle.store_reading.specs.declared.fault.CheckFault.{CheckFault}
 use Rattle.store_reading.proofs.Causing.{at_err}
-use Rattle.store_reading.proofs.Damaged.{other_told, stopped_told, up_to_more, up_to_none}
+use Rattle.store_reading.proofs.Damaged.{stopped_told}
+use Rattle.store_reading.proofs.Hashed.{hashed_of, hashes_more, hashes_none, other_told}
 use Rattle.store_reading.proofs.Segments.{not_of_instant, of_instant}
-use Rattle.store_reading.proofs.segment.check_segment.Goals as goal
+use Rattle.store_reading.proofs.segment_check.hash_segment.Goals as goal
 
 pub entries-init : goal.entries-init
 entries-init g c =
     let d = g.R.Input.state c.args.reader.now in
     record {
       unclosed = c.in_ok-entries.ensures.open;
-      reads = up_to_none c.args.period.now c.in_ok-entries.entries d (c.in_ok-entries.ensures.none d);
+      hashes = hashes_none c.args.period.now c.in_ok-entries.entries c.new-hasher.result d
+          (c.in_ok-entries.ensures.none d) c.new-hasher.ensures;
     }
 
 pub entries-preserved : goal.entries-preserved
@@ -26,31 +29,42 @@ entries-preserved g c =
     let octets = ap (λ (e : Entry). e.octets) c.entry-entry.ensures in
     record {
       unclosed = one.open_after;
-      reads = up_to_more c.args.period.now c.entries.entries c.next.new.self c.entries.at c.text_len.result
-          c.saturating_add-at.result (g.R.Input.state c.args.reader.now) (g.R.Input.state c.entries.reader)
-          (g.R.Input.state c.next.new.reader) c.entries.invariant.reads one
+      hashes = hashes_more c.args.period.now c.entries.entries c.next.new.self c.entries.hasher c.hash_entry.new.hasher
+          c.entries.at c.hash_entry.result c.saturating_add-at.result
+          (g.R.Input.state c.args.reader.now) (g.R.Input.state c.entries.reader) (g.R.Input.state c.next.new.reader)
+          c.entries.invariant.hashes one
           (of_instant c.args.period.now c.entry-entry.result.instant (current c.next.new.self)
           (ap (λ (e : Entry). e.instant) c.entry-entry.ensures) (c.may_have.ensures.0 (search rules)))
-          (c.text_len.ensures ∙ ap (λ (o : List ℕ). position (length (framed Counted o))) octets)
+          (λ m holds. subst (λ (o : List ℕ). Holds256 c.hash_entry.new.hasher (m ++ framed Counted o)) octets
+          (c.hash_entry.ensures.hashed m holds))
+          (c.hash_entry.ensures.size ∙ ap (λ (o : List ℕ). position (length (framed Counted o))) octets)
           c.saturating_add-at.ensures;
     }
+
+pub returns-clause-hashed : goal.returns-clause-hashed
+returns-clause-hashed g c =
+    let over : c.in_ok-next.field-0 ≡ false = search rules in
+    hashed_of c.args.period.now c.entries.entries c.next.new.self c.entries.hasher
+    (g.R.Input.state c.args.reader.now) (g.R.Input.state c.entries.reader) (g.R.Input.state c.next.new.reader)
+    c.hexadecimal.result c.entries.invariant.hashes.segment c.entries.invariant.hashes.hashed
+    (c.in_ok-next.ensures.end over) c.hexadecimal.ensures
 
 pub returns-in_err-next-clause-damaged : goal.returns-in_err-next-clause-damaged
 returns-in_err-next-clause-damaged g c =
     let d = g.R.Input.state c.args.reader.now in
     let fault = c.in_err-next.field-0.0 in
     at_err c.from_residual-in_err-next.result (check_fault_of fault)
-    (λ (f : CheckFault). OfLeft d (λ file. Tells f (IsDamagedSegment c.args.period.now file)))
+    (λ (f : CheckFault). OfLeft d (λ file. Tells f (IsDamagedArchive c.args.period.now file)))
     c.from_residual-in_err-next.ensures.1
     (stopped_told c.args.period.now fault c.entries.entries c.next.new.self d (g.R.Input.state c.entries.reader)
-    (g.R.Input.state c.next.new.reader) c.entries.invariant.reads.segment c.in_err-next.ensures.fault)
+    (g.R.Input.state c.next.new.reader) c.entries.invariant.hashes.segment c.in_err-next.ensures.fault)
 
 pub returns-then-not-may_have-clause-damaged : goal.returns-then-not-may_have-clause-damaged
 returns-then-not-may_have-clause-damaged g c =
     let on : IsTrue c.in_ok-next.field-0 = search rules in
-    other_told c.args.period.now c.entries.entries c.next.new.self c.entries.at
+    other_told c.args.period.now c.entries.entries c.next.new.self c.entries.hasher c.entries.at
     (g.R.Input.state c.args.reader.now) (g.R.Input.state c.entries.reader) (g.R.Input.state c.next.new.reader)
-    c.entries.invariant.reads (c.in_ok-next.ensures.entry on)
+    c.entries.invariant.hashes (c.in_ok-next.ensures.entry on)
     (not_of_instant c.args.period.now c.entry-entry.result.instant (current c.next.new.self)
     (ap (λ (e : Entry). e.instant) c.entry-entry.ensures)
     (λ may. let yes = c.may_have.ensures.1 may in absurd (cc (c.if-not-may_have.true, yes))))

@@ -1,6 +1,6 @@
 use Rattle.archive_streams.specs.Entries.{IsOpen, still_to_come}
-use Rattle.store_upkeep.specs.Damages.{HashesOf}
-use Rattle.store_upkeep.proofs.segment_check.hash_segment.Given as goal
+use Rattle.store_reading.proofs.Hashed.{HashesOf}
+use Rattle.store_reading.proofs.segment_check.hash_segment.Given as goal
 
 abbrev pub invariant-entries : goal.invariant-entries
 invariant-entries g l = record {
