@@ -140,24 +140,18 @@ impl<R: Files + AllocGlobal + Clone + Drop> FolderDisk<R> {
         Err(fault)
     }
 
-    // Brings a file to the disk. If that fails, it is noted.
-    fn sync_file(&mut self, name: &FileName) -> Result<(), DiskFault>
+    // What the system's answer to a sync means. If it failed, that is noted.
+    fn told_sync(
+        &mut self,
+        target: Target,
+        name: Option<&FileName>,
+        answer: io::Result<()>,
+    ) -> Result<(), DiskFault>
         ensures noted { IsErr result → HasFailedSync self.new }
         ensures cause { HasCause (IsSome self.old.last_error) (IsSome self.new.last_error) result }
     {
-        let answer = self.files.sync(name);
         self.sync_failed = self.sync_failed || answer.is_err();
-        self.told(Target::File, Some(name), answer)
-    }
-
-    // Brings the names to the disk. If that fails, it is noted.
-    fn sync_folder(&mut self) -> Result<(), DiskFault>
-        ensures noted { IsErr result → HasFailedSync self.new }
-        ensures cause { HasCause (IsSome self.old.last_error) (IsSome self.new.last_error) result }
-    {
-        let answer = self.files.sync_names();
-        self.sync_failed = self.sync_failed || answer.is_err();
-        self.told(Target::Folder, None, answer)
+        self.told(target, name, answer)
     }
 }
 
@@ -199,7 +193,8 @@ impl<R: Files + AllocGlobal + Clone + Drop> Disk for FolderDisk<R> {
     }
 
     fn sync(&mut self, name: &FileName) -> Result<(), DiskFault> {
-        self.sync_file(name)
+        let answer = self.files.sync(name);
+        self.told_sync(Target::File, Some(name), answer)
     }
 
     fn rename(&mut self, from: &FileName, to: &FileName) -> Result<(), DiskFault> {
@@ -213,6 +208,7 @@ impl<R: Files + AllocGlobal + Clone + Drop> Disk for FolderDisk<R> {
     }
 
     fn sync_names(&mut self) -> Result<(), DiskFault> {
-        self.sync_folder()
+        let answer = self.files.sync_names();
+        self.told_sync(Target::Folder, None, answer)
     }
 }

@@ -3,7 +3,7 @@ ghost use Rattle.std.specs.Prelude.{◌≡◌};
 ghost use Rattle.std.specs.IoError.{error_kind};
 ghost use Rattle.folder_disk.specs.Locks.{lock_name};
 
-use crate::boot::{NOTE_MAX, boot_id, note_of, tells_of_boot};
+use crate::boot::{NOTE_MAX, boot_id, failed_note, sound_note, tells_of_boot};
 use crate::path::FolderPath;
 use crate::regular::{Access, open_or_create};
 use crate::transfers::{cut_to, read_from, write_from};
@@ -109,16 +109,29 @@ impl FolderLock {
         Ok(tells_of_boot(&note[..count], &boot))
     }
 
-    /// Notes that a sync has failed.
-    pub fn note_failed_sync<R: Files>(&mut self, rt: &R, alloc: Global) -> io::Result<()> {
-        let boot = boot_id(rt, alloc)?;
-        let note = note_of(alloc, &boot)?;
-        write_from(&mut self.file, 0, &note)?;
+    // Writes a note over the one before.
+    fn put_note(&mut self, note: &[u8]) -> io::Result<()> {
+        write_from(&mut self.file, 0, note)?;
         cut_to(&mut self.file, note.len() as u64)
     }
 
-    /// Drops the note.
-    pub fn forget_failed_sync(&mut self) -> io::Result<()> {
-        cut_to(&mut self.file, 0)
+    /// Notes that a sync has failed.
+    pub fn note_failed_sync<R: Files>(&mut self, rt: &R, alloc: Global) -> io::Result<()> {
+        let note = failed_note(alloc, &boot_id(rt, alloc)?)?;
+        self.put_note(&note)
+    }
+
+    /// Notes that no sync has failed. Where the disk is full there may be no room for a first note:
+    /// then it stays as it is.
+    pub fn note_sound<R: Files>(&mut self, rt: &R, alloc: Global) -> io::Result<()> {
+        let note = sound_note(alloc, &boot_id(rt, alloc)?)?;
+        match self.put_note(&note) {
+            Err(error)
+                if matches!(
+                    error.kind(),
+                    ErrorKind::StorageFull | ErrorKind::QuotaExceeded
+                ) => Ok(()),
+            answer => answer,
+        }
     }
 }
