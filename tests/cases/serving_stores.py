@@ -195,7 +195,7 @@ def full_mount(runs):
 def failing(runs):
     """Any other failure of the disk, and a sync that finds it full, ends it, with a line that names the file and the
     cause; what was committed is there."""
-    rows = [("create", 1), ("write", 2), ("write", 3), ("sync", 1), ("sync", 3), ("names", 1)]
+    rows = [("create", 1), ("write", 2), ("write", 3), ("write", 4), ("sync", 1), ("sync", 3), ("names", 1)]
     for kind, count, error in [*((*row, errno.EIO) for row in rows), ("sync", 3, errno.ENOSPC)]:
         store = runs.store()
         chosen = {"fail": f"{kind} {count} {error}"}
@@ -217,6 +217,110 @@ def failing(runs):
             runs.results.check(f"{kind} {count} fails: what is held", committed <= found <= set(sent))
             server.send("lf", A + b"\n")
             runs.holds(f"{kind} {count} fails: the next run", server, A, *found)
+
+
+# ---------------------------------------------------------------- after a sync that failed
+
+ANEW = b"a sync had failed: the newest journal is written anew"
+
+
+def boot_id():
+    """What Linux calls its run since the machine was started; none where it does not tell."""
+    try:
+        with open("/proc/sys/kernel/random/boot_id", "rb") as file:
+            return file.read().strip()
+    except OSError:
+        return b""
+
+
+def journals_of(store):
+    return {name: octets for name, octets in files_of(store).items() if JOURNAL.fullmatch(name)}
+
+
+def next_name(journal):
+    return b"journal.%d" % (int(journal[8:]) + 1)
+
+
+def started(runs, what, store, is_anew, right, environment=None):
+    """A server starts on a store with one journal: that is written anew, or stays; what is held is as it was."""
+    (name, octets), *others = journals_of(store).items()
+    with runs.until_eof(*any_port("lf"), *SOON, store=store, environment=environment) as server:
+        runs.holds(what, server, *right)
+        runs.ends(what, server, 0, *([ANEW] if is_anew else []))
+    (now, found), *more = journals_of(store).items()
+    runs.results.same(f"{what}: one journal", (others, more), ([], []))
+    runs.results.same(f"{what}: its name", now, next_name(name) if is_anew else name)
+    runs.results.check(f"{what}: its batches", octets.startswith(found[:-1]), str((octets, found)))
+    runs.results.same(f"{what}: its note", (store / "lock").read_bytes(), b"synced %b\n" % boot_id())
+
+
+def fails_at_sync(runs, store):
+    """A server whose second sync of a batch fails; what was committed."""
+    environment = Keeper(runs.program).tracing(store, runs.path / "log", fail=f"sync 5 {errno.EIO}")
+    with runs.until_eof(*any_port("udp"), *SOON, store=store, environment=environment) as server:
+        committed = set()
+        for one in map(numbered, range(100)):
+            if server.process.poll() is None and server.places():
+                committed = server.held()
+                fling(server, one)
+        runs.results.same("a sync fails: status", server.status(), 2)
+    return committed
+
+
+def written_anew(runs):
+    """After a sync that failed, the next start writes the newest journal anew, unless the machine was started since."""
+    store = runs.store()
+    committed = fails_at_sync(runs, store)
+    note = b"failed %b\n" % boot_id()
+    runs.results.same("a sync fails: its note", (store / "lock").read_bytes(), note)
+    right = held(files_of(store))
+    runs.results.check("a sync fails: what is held", committed and committed <= right, str((committed, right)))
+    started(runs, "after a sync that failed", store, True, right)
+    started(runs, "and once more", store, False, right)
+    other = b"failed 00000000-0000-0000-0000-000000000000\n"
+    for what, octets, is_anew in [("another run of the system", other, not boot_id()), ("no note", b"", False),
+                                  ("this run of the system", note, True), ("a torn note", b"fail", True),
+                                  ("an unknown run", b"failed \n", True)]:
+        (store / "lock").write_bytes(octets)
+        started(runs, what, store, is_anew, right)
+    for kind in "create", "write", "sync", "rename", "names", "remove":
+        (store / "lock").write_bytes(note)
+        not_written_anew(runs, store, kind, note, right)
+
+
+def not_written_anew(runs, store, kind, note, right):
+    """A call fails while a journal is written anew: nothing is lost, and the next start does it again."""
+    environment = Keeper(runs.program).tracing(store, runs.path / "log", fail=f"{kind} 1 {errno.EIO}")
+    with runs.server(*any_port("lf"), store=store, environment=environment) as server:
+        status, told = server.status(), server.told()
+    is_told = len(told) == 2 and told[0] == ANEW and told[1].endswith(b"Input/output error (os error 5)")
+    runs.results.check(f"{kind} fails: its end", status == 2 and is_told, f"{status} {told}")
+    runs.results.same(f"{kind} fails: what is held", held(files_of(store)), right)
+    runs.results.same(f"{kind} fails: its note", (store / "lock").read_bytes(), note)
+    with runs.until_eof(*any_port("lf"), *SOON, store=store) as server:
+        runs.holds(f"{kind} has failed", server, *right)
+        runs.ends(f"{kind} has failed", server, 0, ANEW)
+    for name in sorted(journals_of(store), key=lambda name: int(name[8:]))[:-1]:
+        os.remove(store / name.decode())
+
+
+def gone_reader(runs):
+    """`read` says nothing if its reader has gone, and else that its output cannot be written."""
+    store = runs.store()
+    with runs.until_eof(*any_port("lf"), store=store) as server:
+        server.send("lf", A + b"\n")
+        runs.ends("a store to be read", server, 0)
+    read_end, write_end = os.pipe()
+    os.close(read_end)
+    seen = runs.program.run(["read", str(store)], stdout=write_end)
+    runs.results.same("read, a pipe without a reader", (seen[0], seen[2]), (2, b""))
+    seen = runs.program.run(["read", str(store / "none")], stdout=write_end)
+    said = seen[0] == 2 and seen[2].startswith(b"not a store: ")
+    runs.results.check("read of no store, a pipe without a reader", said, str(seen))
+    os.close(write_end)
+    with open("/dev/full", "wb") as full:
+        seen = runs.program.run(["read", str(store)], stdout=full)
+        runs.results.same("read, a full device", (seen[0], seen[2]), (2, b"write fault\n"))
 
 
 def fling(server, octets):
@@ -311,4 +415,4 @@ def options(runs):
         runs.results.check(f"serve {words}", right, f"{status} {output} {notes}")
 
 
-KEPT = [kills, checkpoints, damaged_journal, full, full_mount, failing, second, ports, paths, folders, options]
+KEPT = [kills, checkpoints, damaged_journal, full, full_mount, failing, written_anew, gone_reader, second, ports, paths, folders, options]

@@ -1,3 +1,4 @@
+pub mod Boots
 pub mod Faults
 pub mod Folders
 pub mod Locks

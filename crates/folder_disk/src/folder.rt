@@ -1,8 +1,8 @@
 //! The disk over a folder.
-ghost use Rattle.std.specs.Prelude.{◌≡◌, IfErr, IfOk, IsErrAnd, IsNone, IsSome, option_copied};
+ghost use Rattle.std.specs.Prelude.{◌≡◌, ◌↔◌, IfErr, IfOk, IsErr, IsErrAnd, IsNone, IsSome, IsTrue, option_copied};
 ghost use Rattle.disk.specs.Calls.{HasCause};
 ghost use Rattle.folder_disk.specs.Faults.{IsTold};
-ghost use Rattle.folder_disk.specs.Folders.{untold, last_error_of};
+ghost use Rattle.folder_disk.specs.Folders.{HasFailedSync, untold, last_error_of};
 
 use crate::fault::{Target, fault_of};
 use crate::open_files::OpenFiles;
@@ -26,6 +26,7 @@ use std::{fs, io};
 pub struct FolderDisk<R: Files> {
     files: OpenFiles<R>,
     last_error: Option<FileError>,
+    sync_failed: bool,
 }
 
 // Makes a folder for its owner alone; whether it was missing.
@@ -74,6 +75,7 @@ impl<R: Files + AllocGlobal + Clone + Drop> FolderDisk<R> {
         Ok(FolderDisk {
             files: OpenFiles::new(rt, path)?,
             last_error: None,
+            sync_failed: false,
         })
     }
 
@@ -102,6 +104,13 @@ impl<R: Files + AllocGlobal + Clone + Drop> FolderDisk<R> {
         self.last_error.as_ref()
     }
 
+    /// Whether a sync has failed: no later one promises anything until the machine is started anew.
+    pub fn has_failed_sync(&self) -> bool
+        ensures { IsTrue result ↔ HasFailedSync self.now }
+    {
+        self.sync_failed
+    }
+
     // What the system's answer to a call means. Where it is that the disk failed, it is kept.
     fn told<T>(
         &mut self,
@@ -113,6 +122,7 @@ impl<R: Files + AllocGlobal + Clone + Drop> FolderDisk<R> {
         ensures err { IfErr answer (λ error. IsErrAnd result (λ fault.
             IsTold target error fault self.new.last_error)) }
         ensures value { IfOk result (λ value. answer ≡ Ok value) }
+        ensures sync { self.new.sync_failed ≡ self.old.sync_failed }
         ensures cause { HasCause (IsSome self.old.last_error) (IsSome self.new.last_error) result }
     {
         let error = match answer {
@@ -128,6 +138,20 @@ impl<R: Files + AllocGlobal + Clone + Drop> FolderDisk<R> {
             self.last_error = Some(FileError { name, error });
         }
         Err(fault)
+    }
+
+    // What the system's answer to a sync means. If it failed, that is noted.
+    fn told_sync(
+        &mut self,
+        target: Target,
+        name: Option<&FileName>,
+        answer: io::Result<()>,
+    ) -> Result<(), DiskFault>
+        ensures noted { IsErr result → HasFailedSync self.new }
+        ensures cause { HasCause (IsSome self.old.last_error) (IsSome self.new.last_error) result }
+    {
+        self.sync_failed = self.sync_failed || answer.is_err();
+        self.told(target, name, answer)
     }
 }
 
@@ -170,7 +194,7 @@ impl<R: Files + AllocGlobal + Clone + Drop> Disk for FolderDisk<R> {
 
     fn sync(&mut self, name: &FileName) -> Result<(), DiskFault> {
         let answer = self.files.sync(name);
-        self.told(Target::File, Some(name), answer)
+        self.told_sync(Target::File, Some(name), answer)
     }
 
     fn rename(&mut self, from: &FileName, to: &FileName) -> Result<(), DiskFault> {
@@ -185,6 +209,6 @@ impl<R: Files + AllocGlobal + Clone + Drop> Disk for FolderDisk<R> {
 
     fn sync_names(&mut self) -> Result<(), DiskFault> {
         let answer = self.files.sync_names();
-        self.told(Target::Folder, None, answer)
+        self.told_sync(Target::Folder, None, answer)
     }
 }

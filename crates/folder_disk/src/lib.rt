@@ -6,6 +6,7 @@
 //! `Ok` only once the octets and the names are where a power cut leaves them.
 #![tactic(auto)]
 
+mod boot;
 mod fault;
 mod folder;
 mod lock;

@@ -3,8 +3,11 @@ ghost use Rattle.std.specs.Prelude.{◌≡◌};
 ghost use Rattle.std.specs.IoError.{error_kind};
 ghost use Rattle.folder_disk.specs.Locks.{lock_name};
 
+use crate::boot::{NOTE_MAX, boot_id, failed_note, sound_note, tells_of_boot};
 use crate::path::FolderPath;
 use crate::regular::{Access, open_or_create};
+use crate::transfers::{cut_to, read_from, write_from};
+use std::alloc::Global;
 use std::fs::{File, TryLockError};
 use std::io::{self, ErrorKind};
 use std::rt::Files;
@@ -62,10 +65,10 @@ pub enum LockFault {
 }
 
 /// A lock on a folder, held until the value is dropped or the process ends. It keeps out only those
-/// who take it too.
+/// who take it too. Its file keeps a note of a sync that failed.
 #[derive(Drop)]
 pub struct FolderLock {
-    _file: File,
+    file: File,
 }
 
 fn open_lock<R: Files + AllocGlobal>(rt: &R, folder: &str, lock: LockFile) -> io::Result<R::File> {
@@ -91,9 +94,44 @@ impl FolderLock {
             Err(error) => return Err(LockFault::Failed(LockError { lock, error })),
         };
         match file.try_lock() {
-            Ok(()) => Ok(FolderLock { _file: file }),
+            Ok(()) => Ok(FolderLock { file }),
             Err(TryLockError::WouldBlock) => Err(LockFault::Held),
             Err(TryLockError::Error(error)) => Err(LockFault::Failed(LockError { lock, error })),
+        }
+    }
+
+    /// Whether a run that had the lock has noted that a sync failed, since the machine was started. It
+    /// is so too if the note cannot be understood, or if the system does not tell since when it runs.
+    pub fn tells_of_failed_sync<R: Files>(&mut self, rt: &R, alloc: Global) -> io::Result<bool> {
+        let mut note = [0u8; NOTE_MAX];
+        let count = read_from(&mut self.file, 0, &mut note)?;
+        let boot = boot_id(rt, alloc)?;
+        Ok(tells_of_boot(&note[..count], &boot))
+    }
+
+    // Writes a note over the one before.
+    fn put_note(&mut self, note: &[u8]) -> io::Result<()> {
+        write_from(&mut self.file, 0, note)?;
+        cut_to(&mut self.file, note.len() as u64)
+    }
+
+    /// Notes that a sync has failed.
+    pub fn note_failed_sync<R: Files>(&mut self, rt: &R, alloc: Global) -> io::Result<()> {
+        let note = failed_note(alloc, &boot_id(rt, alloc)?)?;
+        self.put_note(&note)
+    }
+
+    /// Notes that no sync has failed. Where the disk is full there may be no room for a first note:
+    /// then it stays as it is.
+    pub fn note_sound<R: Files>(&mut self, rt: &R, alloc: Global) -> io::Result<()> {
+        let note = sound_note(alloc, &boot_id(rt, alloc)?)?;
+        match self.put_note(&note) {
+            Err(error)
+                if matches!(
+                    error.kind(),
+                    ErrorKind::StorageFull | ErrorKind::QuotaExceeded
+                ) => Ok(()),
+            answer => answer,
         }
     }
 }

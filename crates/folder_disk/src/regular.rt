@@ -18,7 +18,7 @@ pub enum Access {
     Read,
     /// To be read and written.
     Write,
-    /// To be written at its end, wherever that is.
+    /// To be read, and written at its end, wherever that is.
     Append,
 }
 
@@ -65,7 +65,7 @@ fn open_once<R: Files>(
     let named = fs::symlink_metadata(rt, path)?;
     require_regular(&named)?;
     let opened = OpenOptions::new()
-        .read(access != Access::Append)
+        .read(true)
         .write(access == Access::Write)
         .append(access == Access::Append)
         .open(rt, path)?;

@@ -35,8 +35,13 @@ pub(crate) fn write_over<F: Write + Seek>(file: &mut F, at: u64, octet: u8) -> i
     if at >= file.seek(SeekFrom::End(0))? {
         return Ok(());
     }
+    write_from(file, at, &[octet])
+}
+
+/// Writes all octets from an offset on, over what is there.
+pub(crate) fn write_from<F: Write + Seek>(file: &mut F, at: u64, octets: &[u8]) -> io::Result<()> {
     file.seek(SeekFrom::Start(at))?;
-    file.write_all(&[octet])
+    file.write_all(octets)
 }
 
 /// Cuts a file to a length in octets, if it is longer.

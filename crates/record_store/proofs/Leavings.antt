@@ -122,3 +122,14 @@ replaced_leaves entry text octets (inr (inl past)) =
       | inr before ↦ inl (inr (inl before))
     ]
 replaced_leaves entry text octets (inr (inr moved)) = inl (inr (inr moved))
+
+-- a file is removed
+pub retired_leaves : (entry : Entry) (octets : Option (List ℕ)) → NameMayLeave (retired entry) octets
+    → NameMayLeave entry octets ⊎ (octets ≡ None)
+retired_leaves entry octets (inl now) = inr now
+retired_leaves entry octets (inr (inl past)) =
+    elim (past_or_last entry.past entry.now octets past) [
+      | inl here ↦ inl (inl here)
+      | inr before ↦ inl (inr (inl before))
+    ]
+retired_leaves entry octets (inr (inr moved)) = inl (inr (inr moved))

@@ -1,3 +1,4 @@
+pub mod Anew
 pub mod Batches
 pub mod Causing
 pub mod Committing

@@ -29,7 +29,7 @@ journal_length n small =
 journal_short : (name : List ℕ) → IsJournal name → length name ≤ 28
 journal_short name is = omega (arith, ap length is.name_is, journal_length is.number is.small)
 
-segment_long : (day name : List ℕ) → IsSegment day name → 73 ≤ length name
+pub segment_long : (day name : List ℕ) → IsSegment day name → 73 ≤ length name
 segment_long day name is =
     omega (
       arith,

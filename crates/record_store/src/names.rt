@@ -1,6 +1,7 @@
 //! What files are called.
 ghost use Rattle.std.specs.Prelude.{◌≡◌, IfNone, IfOk, IfSome};
 ghost use Rattle.record_store.specs.Names.{IsGreater, IsJournal, IsNewest, journal_name};
+ghost use Rattle.record_store.specs.Renewals.{renewal_name};
 
 use disk::FileName;
 use itoa::Buffer;
@@ -13,6 +14,16 @@ pub(crate) fn name_of_journal(alloc: Global, number: u64) -> Result<FileName, Al
     let mut octets = b"journal.".to_vec(alloc)?;
     octets.extend_from_slice(Buffer::new().format(number).as_bytes())?;
     match FileName::new(alloc, &octets)? {
+        Some(name) => Ok(name),
+        None => unreachable!(),
+    }
+}
+
+/// The name of a journal that is written anew, until all of it is on the disk.
+pub(crate) fn name_of_renewal(alloc: Global) -> Result<FileName, AllocError>
+    ensures { IfOk result (λ name. name ≡ renewal_name) }
+{
+    match FileName::new(alloc, b"new.journal")? {
         Some(name) => Ok(name),
         None => unreachable!(),
     }

@@ -22,7 +22,7 @@ use disk::{Disk, DiskFault};
 use journal::{Journal, JournalFault};
 use std::alloc::Global;
 
-fn at_journal(number: u64, fault: DiskFault) -> StoreFault
+pub(crate) fn at_journal(number: u64, fault: DiskFault) -> StoreFault
     ensures { result ≡ StoreFault.Journal number (JournalFault.Disk fault) }
 {
     StoreFault::Journal {

@@ -80,8 +80,11 @@ pub trait Keeping<S: Store> {
     fn journal_len(&self) -> u64;
 }
 
-/// What waits for a while, in which nothing is read.
+/// The time of a server.
 pub trait Pause {
-    /// Waits for one period.
+    /// Waits for a while, in which nothing is read.
     fn pause(&mut self);
+
+    /// How many milliseconds have passed since the last call, or, at the first, since the server began.
+    fn passed(&mut self) -> u32;
 }

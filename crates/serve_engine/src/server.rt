@@ -25,8 +25,8 @@ pub struct Server<S, K, N, R> {
     pub(crate) full: bool,
     /// Whether it was told that the disk is full, and not since that it has room.
     pub(crate) told: bool,
-    /// How many ticks have come since the counts were told.
-    pub(crate) ticks: u64,
+    /// How many milliseconds have passed since the counts were told.
+    pub(crate) waited: u64,
 }
 
 impl<S: Store + Drop, K: Keeping<S> + Drop, N: Output + Drop, R: Output + Drop> Server<S, K, N, R> {
@@ -56,7 +56,7 @@ impl<S: Store + Drop, K: Keeping<S> + Drop, N: Output + Drop, R: Output + Drop> 
             peers: Peers::new(alloc, CONNECTIONS_MAX)?,
             full: false,
             told: false,
-            ticks: 0,
+            waited: 0,
         })
     }
 
@@ -71,7 +71,7 @@ impl<S: Store + Drop, K: Keeping<S> + Drop, N: Output + Drop, R: Output + Drop> 
             peers: _,
             full: _,
             told: _,
-            ticks: _,
+            waited: _,
         } = self;
         let (notes, refused) = report.into_outputs();
         (intake.into_keeper(), notes, refused)

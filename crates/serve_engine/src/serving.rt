@@ -21,18 +21,17 @@ use std::alloc::Global;
 pub struct ServeOptions {
     /// From how many octets on a journal makes a checkpoint due.
     pub checkpoint_len: u64,
-    /// After how many ticks the counts are told; 0 means never.
-    pub count_ticks: u64,
-    /// How many milliseconds a tick stands for; the pace of the notes goes by it.
-    pub tick_millis: u32,
+    /// After how many milliseconds the counts are told, at the next tick; 0 means never.
+    pub count_millis: u64,
 }
 
 impl<S: Store + Drop, K: Keeping<S> + Drop, N: Output + Drop, R: Output + Drop> Server<S, K, N, R> {
     // A step of the source.
-    fn step<Q: ServerSource>(
+    fn step<Q: ServerSource, P: Pause>(
         &mut self,
         alloc: Global,
         source: &mut Q,
+        pause: &mut P,
         step: ServerStep,
         buf: &[u8],
         options: &ServeOptions,
@@ -69,7 +68,7 @@ impl<S: Store + Drop, K: Keeping<S> + Drop, N: Output + Drop, R: Output + Drop> 
                 framing,
                 peer,
             } => self.turned_away(alloc, framing, peer),
-            ServerStep::Tick => self.tick(alloc, options),
+            ServerStep::Tick => self.tick(alloc, pause.passed(), options),
             ServerStep::InputEnded => Turn::On,
             ServerStep::Finished => self.finish(alloc, ServeEnd::Finished),
             ServerStep::Failed(fault) => self.finish(alloc, ServeEnd::Source(fault)),
@@ -100,7 +99,7 @@ impl<S: Store + Drop, K: Keeping<S> + Drop, N: Output + Drop, R: Output + Drop> 
             return self.try_again(alloc);
         }
         let step = source.next(buf);
-        self.step(alloc, source, step, buf, options)
+        self.step(alloc, source, pause, step, buf, options)
     }
 
     /// Serves a source until it has finished or failed, the disk has failed, or memory has run out.

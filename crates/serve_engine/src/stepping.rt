@@ -269,18 +269,18 @@ impl<S: Store + Drop, K: Keeping<S> + Drop, N: Output + Drop, R: Output + Drop> 
         }
     }
 
-    // Counts a tick, which pays for lines, and tells the counts each so often.
-    fn count_tick(&mut self, options: &ServeOptions)
+    // Counts the time that has passed, which pays for lines, and tells the counts each so often.
+    fn count_time(&mut self, millis: u32, options: &ServeOptions)
         ensures same { self.new.intake ≡ self.old.intake }
         ensures full { self.new.full ≡ self.old.full }
         ensures kept { KeepsSilent false (kept_in R.state self.old.report) (kept_in R.state self.new.report) }
-        ensures pace { PaysFor self.old.report.pace self.new.report.pace options.now.tick_millis }
+        ensures pace { PaysFor self.old.report.pace self.new.report.pace millis }
         ensures told { self.new.told ≡ self.old.told }
     {
-        self.report.tick(options.tick_millis);
-        self.ticks = self.ticks.saturating_add(1);
-        if options.count_ticks != 0 && self.ticks >= options.count_ticks {
-            self.ticks = 0;
+        self.report.tick(millis);
+        self.waited = self.waited.saturating_add(u64::from(millis));
+        if options.count_millis != 0 && self.waited >= options.count_millis {
+            self.waited = 0;
             self.report.tell_counts();
         }
     }
@@ -320,8 +320,8 @@ impl<S: Store + Drop, K: Keeping<S> + Drop, N: Output + Drop, R: Output + Drop> 
         }
     }
 
-    // The time of a period is up.
-    pub(crate) fn tick(&mut self, alloc: Global, options: &ServeOptions) -> Turn
+    // The time of a period is up; so many milliseconds have passed since the last time.
+    pub(crate) fn tick(&mut self, alloc: Global, millis: u32, options: &ServeOptions) -> Turn
         ensures served { CommitsAll S.entries K.stands self.old.intake self.new.intake self.new.full result }
         ensures settled { NoneWaits self.old.intake.collector → NoneWaits self.new.intake.collector }
         ensures manner { manner_of self.new.intake.collector ≡ manner_of self.old.intake.collector }
@@ -331,7 +331,7 @@ impl<S: Store + Drop, K: Keeping<S> + Drop, N: Output + Drop, R: Output + Drop> 
     {
         match self.commit(alloc) {
             Turn::On => {
-                self.count_tick(options);
+                self.count_time(millis, options);
                 self.finish_tick(alloc, options.checkpoint_len)
             }
             end => end,

@@ -70,6 +70,10 @@ impl Pause for CountPause {
     fn pause(&mut self) {
         self.0 = self.0.saturating_add(1);
     }
+
+    fn passed(&mut self) -> u32 {
+        100
+    }
 }
 
 fn keeper() -> CountKeeper {
@@ -115,8 +119,7 @@ fn served(
     let mut pause = CountPause(0);
     let options = ServeOptions {
         checkpoint_len: 1,
-        count_ticks: 2,
-        tick_millis: 100,
+        count_millis: 200,
     };
     let end = server.serve(alloc, &mut source, &mut pause, &options);
     let counts = server.counts();
@@ -307,8 +310,7 @@ fn lines_that_cannot_be_written_are_dropped(rt: HostRuntime) -> Result<(), Fail>
     let mut server = Server::new(alloc, collector, keeper(), notes, refused)?;
     let options = ServeOptions {
         checkpoint_len: 1,
-        count_ticks: 0,
-        tick_millis: 100,
+        count_millis: 0,
     };
     let end = server.serve(alloc, &mut source, &mut CountPause(0), &options);
     assert_eq!(rt; end, ServeEnd::Finished);

@@ -53,14 +53,20 @@ fn is_for_reading_alone(rt: &HostRuntime) -> bool {
         .any(says_reading_alone)
 }
 
-/// Whether standard output can be written at all: its descriptor is open for writing, and somebody
-/// is left to read what is written to it. Nothing is written.
-pub fn can_be_written(rt: &HostRuntime) -> bool {
+/// Whether standard output is a pipe or a socket, and nobody is left to read what is written to it.
+/// Nothing is written.
+pub fn has_lost_reader() -> bool {
     let mut asked = [pollfd {
         fd: STDOUT_FILENO,
         events: POLLOUT,
         revents: 0,
     }];
     let _count = poll(&mut asked, 0);
-    asked[0].revents & (POLLERR | POLLHUP) == 0 && !is_for_reading_alone(rt)
+    asked[0].revents & (POLLERR | POLLHUP) != 0
+}
+
+/// Whether standard output can be written at all: its descriptor is open for writing, and somebody
+/// is left to read what is written to it. Nothing is written.
+pub fn can_be_written(rt: &HostRuntime) -> bool {
+    !has_lost_reader() && !is_for_reading_alone(rt)
 }

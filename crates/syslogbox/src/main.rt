@@ -5,20 +5,24 @@ mod collect;
 mod descriptors;
 mod disk_files;
 mod entries;
+mod errors;
 mod flushing;
 mod notes;
+mod opening;
 mod outputs;
 mod refused;
 mod serve;
 mod spill;
 mod stores;
 mod telling;
+mod time;
 
 use command_line::{FileRequest, Request, read_words};
 use commands::{report_words_fault, run_request};
 use descriptors::{can_be_written, occupy_closed_descriptors};
 use disk_files::DiskFiles;
 use driver::{FAULT, NO_MEMORY, report};
+use errors::QuietErrors;
 use octet_devices::{FromRead, ToWrite};
 use std::io::{Stderr, Stdout};
 use std::process::ExitCode;
@@ -97,6 +101,7 @@ fn main(rt: HostRuntime) -> ExitCode {
         }
         Ok(Request::Serve { words }) => serve::serve(&rt, &words),
         Ok(Request::Read { dir, range }) => {
+            let mut diagnostics = ToWrite::new(QuietErrors::new(&rt));
             stores::read(&rt, rt.alloc(), dir, range, &mut output, &mut diagnostics)
         }
         Ok(Request::Verify { dir }) => {

@@ -1,11 +1,11 @@
 //! The file of the frames that were refused.
 
 use crate::entries::Entries;
+use folder_disk::{Access, open_or_create};
 use std::alloc::AllocError;
-use std::fs::{self, File, Metadata, OpenOptions};
-use std::io::{self, ErrorKind, Read, Seek, SeekFrom, Write};
+use std::fs::{self, File};
+use std::io::{self, Read, Seek, SeekFrom, Write};
 use std::mem::replace;
-use std::os::unix::fs::{MetadataExt, OpenOptionsExt};
 use std::time::{Duration, Instant};
 
 // The most octets of the file: at the first entry behind them it gets another name, and a new one begins.
@@ -13,9 +13,6 @@ const REFUSED_MAX: u64 = 64 << 20;
 
 // How many octets of entries are written together at most, and read at once.
 const HELD_MAX: usize = 65_536;
-
-// Linux's error where a folder stands in place of a file.
-const EISDIR: i32 = 21;
 
 // How many seconds are between two lines on entries that were not kept.
 const TOLD_SECONDS: u64 = 60;
@@ -54,49 +51,9 @@ struct Lost {
     told: Option<Instant>,
 }
 
-fn options() -> OpenOptions {
-    let mut options = OpenOptions::new();
-    options.read(true).append(true).mode(0o600);
-    options
-}
-
-// A new file, where no other has its name.
-fn create(rt: &HostRuntime, path: &str) -> io::Result<File> {
-    options().create_new(true).open(rt, path)
-}
-
-fn is_same(one: &Metadata, other: &Metadata) -> bool {
-    one.dev() == other.dev() && one.ino() == other.ino()
-}
-
-// An error where a file is no regular one.
-fn check_regular(found: &Metadata) -> io::Result<()> {
-    if found.is_dir() {
-        return Err(io::Error::from_raw_os_error(EISDIR));
-    }
-    if !found.is_file() {
-        return Err(io::Error::new(ErrorKind::InvalidInput, "not a regular file"));
-    }
-    Ok(())
-}
-
-// Opens a file that has a name already. No link is followed, and nothing but a regular file is opened.
-fn open_found(rt: &HostRuntime, path: &str, found: &Metadata) -> io::Result<File> {
-    check_regular(found)?;
-    let file = options().open(rt, path)?;
-    if !is_same(&file.metadata()?, found) {
-        return Err(io::Error::new(ErrorKind::InvalidInput, "the file was exchanged"));
-    }
-    Ok(file)
-}
-
-// Opens a regular file, or makes one where there is none.
-fn open_regular(rt: &HostRuntime, path: &str) -> io::Result<File> {
-    match fs::symlink_metadata(rt, path) {
-        Ok(found) => open_found(rt, path, &found),
-        Err(error) if error.kind() == ErrorKind::NotFound => create(rt, path),
-        Err(error) => Err(error),
-    }
+// Opens a file, or makes it where there is none.
+fn open(rt: &HostRuntime, path: &str) -> io::Result<File> {
+    Ok(open_or_create(rt, path, Access::Append)?.file)
 }
 
 // Where the last whole entry of a file ends.
@@ -162,7 +119,7 @@ impl<'a> RefusedFile<'a> {
             older: format!(in rt.alloc(); "{dir}/refused.1")?,
             newer: format!(in rt.alloc(); "{dir}/refused.new")?,
         };
-        let mut file = open_regular(rt, names.path.as_str())?;
+        let mut file = open(rt, names.path.as_str())?;
         let mut held = vec![in rt.alloc(); 0u8; HELD_MAX]?;
         let cut = cut_torn(&mut file, &mut held)?;
         held.clear();
@@ -205,7 +162,7 @@ impl<'a> RefusedFile<'a> {
     fn turn(&mut self) -> io::Result<()> {
         let names = &self.names;
         let _missing = fs::remove_file(self.rt, names.newer.as_str());
-        let newer = create(self.rt, names.newer.as_str())?;
+        let newer = open(self.rt, names.newer.as_str())?;
         fs::rename(self.rt, names.path.as_str(), names.older.as_str())?;
         if let Err(error) = fs::rename(self.rt, names.newer.as_str(), names.path.as_str()) {
             let _back = fs::rename(self.rt, names.older.as_str(), names.path.as_str());

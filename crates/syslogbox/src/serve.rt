@@ -2,52 +2,27 @@
 
 use crate::flushing::Flushing;
 use crate::notes::Notes;
+use crate::opening::{Fault, Keeper, note_failed_sync, open_refused, open_store};
 use crate::outputs::{Outputs, SharedNotes, SharedRefused};
-use crate::refused::RefusedFile;
 use crate::telling::Teller;
+use crate::time::ServerTime;
 use archive_pages::PagedArchive;
-use disk::DiskFault;
 use driver::{NO_MEMORY, report};
-use durable_store::OpenFault;
-use folder_disk::{FolderDisk, FolderLock, LockFault, LockFile};
-use journal::JournalFault;
-use libc::net::poll;
+use folder_disk::{FolderDisk, FolderLock};
 use octet_devices::ToWrite;
-use record_store::StoreFault;
-use serve_engine::{Pause, ServeEnd, ServeOptions, Server};
+use serve_engine::{ServeEnd, ServeOptions, Server};
 use server_words::{InheritedKind, ListenerWords, ServeWords};
 use socket_source::{Inherited, Listener, OpenFault as SocketFault, SocketSource, SourceOptions};
 use std::alloc::{AllocError, Global};
 use std::cell::RefCell;
-use std::io;
 use std::time::Duration;
-use store_keeper::{DiskKeeper, SoundDisk, server_on};
+use store_keeper::server_on;
 
 // Room for datagrams that wait, in octets, as far as the system gives it.
 const RECEIVE_BUFFER: u32 = 16 << 20;
 
 // Milliseconds between two lines of counts.
 const COUNT_MILLIS: u64 = 60_000;
-
-// Milliseconds between two tries on a full disk.
-const FULL_MILLIS: i32 = 1_000;
-
-// Waits for a second. What was told is written before.
-#[derive(Drop)]
-struct Second<'n, 'f, 'r> {
-    outputs: Outputs<'n, 'f, 'r>,
-}
-
-impl<'n, 'f, 'r> Pause for Second<'n, 'f, 'r> {
-    fn pause(&mut self) {
-        self.outputs.flush();
-        let _ = poll(&mut [], FULL_MILLIS);
-    }
-}
-
-type Fault = u8;
-
-type Keeper = DiskKeeper<FolderDisk<HostRuntime>>;
 
 type Stores<'n, 'f, 'r> = Server<
     PagedArchive,
@@ -98,12 +73,6 @@ fn listeners<'a>(alloc: Global, words: &ServeWords<'a>) -> Result<Vec<Listener<'
     Ok(all)
 }
 
-// How many periods pass in a minute. The shortest one has a millisecond.
-fn periods_a_minute(words: &ServeWords<'_>) -> u64 {
-    let millis = u64::from(words.options.commit_millis).max(1);
-    COUNT_MILLIS.checked_div(millis).unwrap_or(1).max(1)
-}
-
 fn source_options(words: &ServeWords<'_>) -> SourceOptions {
     SourceOptions {
         connections: words.options.connections as usize,
@@ -139,88 +108,6 @@ fn open_sockets<'a>(
         Err(SocketFault::Memory) => Err(teller.out_of_memory()),
         Err(fault) => Err(teller.refuse("sockets", fault)),
     }
-}
-
-// Whether memory ran out while a store was opened.
-fn wants_memory(fault: &OpenFault) -> bool {
-    match fault {
-        OpenFault::Memory | OpenFault::Store(StoreFault::Memory) => true,
-        OpenFault::Store(StoreFault::Folder { fault }) => *fault == DiskFault::Memory,
-        OpenFault::Store(StoreFault::Journal { number: _, fault }) => {
-            *fault == JournalFault::Disk(DiskFault::Memory)
-        }
-        _ => false,
-    }
-}
-
-// Why the store was not opened.
-fn refuse_store(
-    teller: Teller<'_, '_>,
-    dir: &str,
-    fault: OpenFault,
-    disk: &FolderDisk<HostRuntime>,
-) -> u8 {
-    if wants_memory(&fault) {
-        return teller.out_of_memory();
-    }
-    teller.refuse_disk(dir, disk, fault)
-}
-
-// Tells an error of the system on a file or a folder. Want of memory is told as that.
-fn refuse_io(teller: Teller<'_, '_>, path: &str, error: io::Error) -> u8 {
-    if error.kind() == io::ErrorKind::OutOfMemory {
-        return teller.out_of_memory();
-    }
-    teller.refuse(path, error)
-}
-
-// Tells an error of the system on a file of the store.
-fn refuse_file(teller: Teller<'_, '_>, dir: &str, name: &str, error: io::Error) -> u8 {
-    match format!(in teller.rt.alloc(); "{dir}/{name}") {
-        Ok(path) => refuse_io(teller, path.as_str(), error),
-        Err(_) => teller.out_of_memory(),
-    }
-}
-
-// Opens the store in a folder, which is made where it is missing.
-fn open_store(teller: Teller<'_, '_>, dir: &str) -> Result<(FolderLock, Keeper), Fault> {
-    let rt = teller.rt;
-    let disk = match FolderDisk::create(rt, dir) {
-        Ok(disk) => disk,
-        Err(fault) if fault.kind() == io::ErrorKind::OutOfMemory => {
-            return Err(teller.out_of_memory());
-        }
-        Err(fault) => return Err(teller.refuse(dir, fault)),
-    };
-    let lock = match FolderLock::take(rt, dir, LockFile::Writing) {
-        Ok(lock) => lock,
-        Err(LockFault::Held) => return Err(teller.refuse(dir, "another server has the store")),
-        Err(LockFault::Failed(failed)) => {
-            return Err(refuse_file(teller, dir, LockFile::Writing.name(), failed.error));
-        }
-    };
-    match DiskKeeper::open(rt.alloc(), SoundDisk { disk }) {
-        Ok(keeper) => Ok((lock, keeper)),
-        Err((fault, disk)) => Err(refuse_store(teller, dir, fault, &disk)),
-    }
-}
-
-// Opens the file of what is refused, and tells where the end of it was cut off.
-fn open_refused<'a>(teller: Teller<'a, '_>, dir: &str) -> Result<RefusedFile<'a>, Fault> {
-    let file = match RefusedFile::open(teller.rt, dir) {
-        Ok(file) => file,
-        Err(error) => return Err(refuse_file(teller, dir, "refused", error)),
-    };
-    let cut = file.cut_octets();
-    if cut > 0 {
-        match format!(in teller.rt.alloc();
-            "refused: {cut} octets behind the last whole entry cut off\n"
-        ) {
-            Ok(line) => teller.tell(line.as_str()),
-            Err(_) => return Err(teller.out_of_memory()),
-        }
-    }
-    Ok(file)
 }
 
 // Tells where each listener listens.
@@ -266,8 +153,7 @@ fn make_server<'n, 'f, 'r>(
 fn serve_options(words: &ServeWords<'_>) -> ServeOptions {
     ServeOptions {
         checkpoint_len: u64::from(words.options.checkpoint_mib) << 20,
-        count_ticks: periods_a_minute(words),
-        tick_millis: words.options.commit_millis.max(1),
+        count_millis: COUNT_MILLIS,
     }
 }
 
@@ -289,6 +175,7 @@ fn collect(
     teller: Teller<'_, '_>,
     words: &ServeWords<'_>,
     source: SocketSource<'_, HostRuntime>,
+    lock: &mut FolderLock,
     keeper: Keeper,
     outputs: Outputs<'_, '_, '_>,
 ) -> Result<u8, Fault> {
@@ -297,13 +184,14 @@ fn collect(
         return Err(teller.out_of_memory());
     }
     let mut source = Flushing { source, outputs };
-    let mut second = Second { outputs };
+    let mut time = ServerTime::new(teller.rt, outputs);
     let options = serve_options(words);
     let alloc = teller.rt.alloc();
-    let end = store_keeper::serve(alloc, &mut server, &mut source, &mut second, &options);
+    let end = store_keeper::serve(alloc, &mut server, &mut source, &mut time, &options);
     let status = end.status(server.counts().has_refused());
     outputs.save_last();
     let (keeper, _notes, _refused) = server.into_parts();
+    note_failed_sync(teller, words.dir, lock, keeper.disk());
     tell_end(teller, words.dir, end, keeper.disk());
     Ok(status)
 }
@@ -311,12 +199,12 @@ fn collect(
 // Opens what is asked for, and collects.
 fn run(teller: Teller<'_, '_>, words: &ServeWords<'_>) -> Result<u8, Fault> {
     let source = open_sockets(teller, words)?;
-    let (_lock, keeper) = open_store(teller, words.dir)?;
+    let (mut lock, keeper) = open_store(teller, words.dir)?;
     let file = RefCell::new(open_refused(teller, words.dir)?);
     let notes = teller.notes;
     let refused = SharedRefused { file: &file };
     let outputs = Outputs { notes, refused };
-    collect(teller, words, source, keeper, outputs)
+    collect(teller, words, source, &mut lock, keeper, outputs)
 }
 
 /// Collects from sockets into a store until it is stopped, or until standard input ends if that is

@@ -8,14 +8,14 @@ use Rattle.serve_engine.proofs.server.Server.tick.Goals as goal
 pub returns-in-On-clause-served : goal.returns-in-On-clause-served
 returns-in-On-clause-served g c k first before at =
     let d = rw c.in-On.is at (c.commit.ensures.served k first before at) in
-    let same = c.count_tick.ensures.same in (
+    let same = c.count_time.ensures.same in (
       d.0,
       c.finish_tick.ensures.stands d.0 first before
           (subst (λ i. StandsBy (g.S.Store.entries) (g.K.Keeping.stands) i d.0 first before) (sym same) d.1),
       d.2,
-      unless_map c.finish_tick.result c.finish_tick.new.self.full (c.count_tick.new.self.full ≡ false)
+      unless_map c.finish_tick.result c.finish_tick.new.self.full (c.count_time.new.self.full ≡ false)
           (IsCommitted (g.S.Store.entries) c.finish_tick.new.self.intake d.0) c.finish_tick.ensures.full (λ room.
-          let was = d.3 (sym c.count_tick.ensures.full ∙ room) in
+          let was = d.3 (sym c.count_time.ensures.full ∙ room) in
           record {
             fresh = ap (λ x. g.S.Store.entries (store_of x))
                 (c.finish_tick.ensures.collector ∙ ap (λ i. i.collector) same) ∙ was.fresh;
@@ -29,13 +29,13 @@ returns-in_default-clause-served g c = c.commit.ensures.served
 pub returns-in-On-clause-kept : goal.returns-in-On-clause-kept
 returns-in-On-clause-kept g c = (
   (
-    c.finish_tick.ensures.kept.0.0 ∙ c.count_tick.ensures.kept.0.0 ∙ c.commit.ensures.kept.0.0,
-    omega (arith, c.finish_tick.ensures.kept.0.1, c.count_tick.ensures.kept.0.1, c.commit.ensures.kept.0.1),
+    c.finish_tick.ensures.kept.0.0 ∙ c.count_time.ensures.kept.0.0 ∙ c.commit.ensures.kept.0.0,
+    omega (arith, c.finish_tick.ensures.kept.0.1, c.count_time.ensures.kept.0.1, c.commit.ensures.kept.0.1),
   ),
   commit_behind c.args.self.now.report.counts c.commit.new.self.report.counts c.finish_tick.new.self.report.counts
       c.commit.ensures.kept.1
-      (dropped_twice c.commit.new.self.report.counts c.count_tick.new.self.report.counts
-      c.finish_tick.new.self.report.counts c.count_tick.ensures.kept.1 c.finish_tick.ensures.kept.1),
+      (dropped_twice c.commit.new.self.report.counts c.count_time.new.self.report.counts
+      c.finish_tick.new.self.report.counts c.count_time.ensures.kept.1 c.finish_tick.ensures.kept.1),
 )
 
 pub returns-in_default-clause-kept : goal.returns-in_default-clause-kept

@@ -1,0 +1,159 @@
+//! What a server opens in a store's folder.
+
+use crate::refused::RefusedFile;
+use crate::telling::Teller;
+use disk::DiskFault;
+use durable_store::OpenFault;
+use folder_disk::{FolderDisk, FolderLock, LockFault, LockFile};
+use journal::JournalFault;
+use record_store::StoreFault;
+use std::io;
+use store_keeper::{DiskKeeper, SoundDisk};
+
+/// The exit status of a server that does not begin.
+pub type Fault = u8;
+
+/// The store of a folder.
+pub type Keeper = DiskKeeper<FolderDisk<HostRuntime>>;
+
+// Whether memory ran out while a store was opened.
+fn wants_memory(fault: &OpenFault) -> bool {
+    match fault {
+        OpenFault::Memory | OpenFault::Store(StoreFault::Memory) => true,
+        OpenFault::Store(StoreFault::Folder { fault }) => *fault == DiskFault::Memory,
+        OpenFault::Store(StoreFault::Journal { number: _, fault }) => {
+            *fault == JournalFault::Disk(DiskFault::Memory)
+        }
+        _ => false,
+    }
+}
+
+// Why the store was not opened.
+fn refuse_store(
+    teller: Teller<'_, '_>,
+    dir: &str,
+    fault: OpenFault,
+    disk: &FolderDisk<HostRuntime>,
+) -> u8 {
+    if wants_memory(&fault) {
+        return teller.out_of_memory();
+    }
+    teller.refuse_disk(dir, disk, fault)
+}
+
+// Tells an error of the system on a file or a folder. Want of memory is told as that.
+fn refuse_io(teller: Teller<'_, '_>, path: &str, error: io::Error) -> u8 {
+    if error.kind() == io::ErrorKind::OutOfMemory {
+        return teller.out_of_memory();
+    }
+    teller.refuse(path, error)
+}
+
+// Tells an error of the system on a file of the store.
+fn refuse_file(teller: Teller<'_, '_>, dir: &str, name: &str, error: io::Error) -> u8 {
+    match format!(in teller.rt.alloc(); "{dir}/{name}") {
+        Ok(path) => refuse_io(teller, path.as_str(), error),
+        Err(_) => teller.out_of_memory(),
+    }
+}
+
+// Tells an error of the system on the file of the lock.
+fn refuse_lock(teller: Teller<'_, '_>, dir: &str, error: io::Error) -> u8 {
+    refuse_file(teller, dir, LockFile::Writing.name(), error)
+}
+
+// Writes the newest journal anew if a run before has ended by a sync that failed, since the machine was
+// started: what a read shows of the journal may not be on the disk then, whatever a sync of it says.
+fn renew(
+    teller: Teller<'_, '_>,
+    dir: &str,
+    lock: &mut FolderLock,
+    disk: &mut FolderDisk<HostRuntime>,
+) -> Result<(), Fault> {
+    let rt = teller.rt;
+    match lock.tells_of_failed_sync(rt, rt.alloc()) {
+        Ok(false) => {}
+        Ok(true) => {
+            teller.tell("a sync had failed: the newest journal is written anew\n");
+            match record_store::renew(rt.alloc(), disk) {
+                Ok(()) => {}
+                Err(fault) => return Err(refuse_store(teller, dir, OpenFault::Store(fault), disk)),
+            }
+        }
+        Err(error) => return Err(refuse_lock(teller, dir, error)),
+    }
+    match lock.note_sound(rt, rt.alloc()) {
+        Ok(()) => Ok(()),
+        Err(error) => Err(refuse_lock(teller, dir, error)),
+    }
+}
+
+/// Notes in the file of the lock that a sync has failed, if one has.
+pub fn note_failed_sync(
+    teller: Teller<'_, '_>,
+    dir: &str,
+    lock: &mut FolderLock,
+    disk: &FolderDisk<HostRuntime>,
+) {
+    if !disk.has_failed_sync() {
+        return;
+    }
+    if let Err(error) = lock.note_failed_sync(teller.rt, teller.rt.alloc()) {
+        let _status = refuse_lock(teller, dir, error);
+    }
+}
+
+// Opens the store on a disk.
+fn open_keeper(
+    teller: Teller<'_, '_>,
+    dir: &str,
+    lock: &mut FolderLock,
+    disk: FolderDisk<HostRuntime>,
+) -> Result<Keeper, Fault> {
+    let mut disk = disk;
+    renew(teller, dir, lock, &mut disk)?;
+    match DiskKeeper::open(teller.rt.alloc(), SoundDisk { disk }) {
+        Ok(keeper) => Ok(keeper),
+        Err((fault, disk)) => {
+            note_failed_sync(teller, dir, lock, &disk);
+            Err(refuse_store(teller, dir, fault, &disk))
+        }
+    }
+}
+
+/// Opens the store in a folder, which is made where it is missing.
+pub fn open_store(teller: Teller<'_, '_>, dir: &str) -> Result<(FolderLock, Keeper), Fault> {
+    let rt = teller.rt;
+    let disk = match FolderDisk::create(rt, dir) {
+        Ok(disk) => disk,
+        Err(fault) if fault.kind() == io::ErrorKind::OutOfMemory => {
+            return Err(teller.out_of_memory());
+        }
+        Err(fault) => return Err(teller.refuse(dir, fault)),
+    };
+    let mut lock = match FolderLock::take(rt, dir, LockFile::Writing) {
+        Ok(lock) => lock,
+        Err(LockFault::Held) => return Err(teller.refuse(dir, "another server has the store")),
+        Err(LockFault::Failed(failed)) => return Err(refuse_lock(teller, dir, failed.error)),
+    };
+    let keeper = open_keeper(teller, dir, &mut lock, disk)?;
+    Ok((lock, keeper))
+}
+
+/// Opens the file of what is refused, and tells where the end of it was cut off.
+pub fn open_refused<'a>(teller: Teller<'a, '_>, dir: &str) -> Result<RefusedFile<'a>, Fault> {
+    let file = match RefusedFile::open(teller.rt, dir) {
+        Ok(file) => file,
+        Err(error) => return Err(refuse_file(teller, dir, "refused", error)),
+    };
+    let cut = file.cut_octets();
+    if cut > 0 {
+        match format!(in teller.rt.alloc();
+            "refused: {cut} octets behind the last whole entry cut off\n"
+        ) {
+            Ok(line) => teller.tell(line.as_str()),
+            Err(_) => return Err(teller.out_of_memory()),
+        }
+    }
+    Ok(file)
+}
