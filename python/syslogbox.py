@@ -31,7 +31,7 @@ from typing import Any, BinaryIO, Callable, Dict, Iterable, Iterator, List, Mapp
 __all__ = ["ENTRY_MAX", "FRAME_MAX", "ArchiveError", "Element", "Field", "Formatter", "Framing", "Handler", "Kind", "PacketError",
            "Record", "RecordError", "StreamError", "SyslogError", "canonical", "check", "check_all", "check_stream", "framed",
            "frames", "is_record", "legacy", "union", "view"]
-__version__ = "0.2.0"
+__version__ = "0.3.0"
 
 #: The most octets of a record in a frame that the program reads.
 FRAME_MAX = 262_144

@@ -599,8 +599,8 @@ fn tells(rt: &HostRuntime, words: &[&str], text: &str) -> bool {
 
 #[test]
 fn the_version_is_a_text(rt: HostRuntime) {
-    assert!(rt; tells(&rt, &["--version"], "syslogbox 0.2.0\n"));
-    assert!(rt; tells(&rt, &["-V"], "syslogbox 0.2.0\n"));
+    assert!(rt; tells(&rt, &["--version"], "syslogbox 0.3.0\n"));
+    assert!(rt; tells(&rt, &["-V"], "syslogbox 0.3.0\n"));
 }
 
 // words whose values are not all taken, and the text that names the first such option
