@@ -3,8 +3,10 @@ use archive_text::ArchiveFault;
 use octet_devices::{FromRead, Fuse, ToWrite};
 use std::test::Fail;
 
-const ALL: &[u8] =
-    b"19 <13>1 - h a - - - x45 <12>1 2024-02-29T23:00:00.000000Z h a - - - z45 <14>1 2024-02-29T23:30:00.000000Z h a - - - y45 <14>1 2024-03-01T00:00:00.000000Z h a - - - y";
+const ALL: &[u8] = b"19 <13>1 - h a - - - x\
+    45 <12>1 2024-02-29T23:00:00.000000Z h a - - - z\
+    45 <14>1 2024-02-29T23:30:00.000000Z h a - - - y\
+    45 <14>1 2024-03-01T00:00:00.000000Z h a - - - y";
 
 // what is answered for a text, and what is written then
 fn digested(rt: &HostRuntime, period: Period, text: &[u8]) -> (Result<u64, DigestFault>, Vec<u8>) {

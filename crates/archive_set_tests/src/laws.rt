@@ -3,8 +3,9 @@ use archive_text::ArchiveFault;
 
 #[test]
 fn a_text_is_an_archive_or_has_a_fault(rt: HostRuntime) {
-    let sorted =
-        b"19 <13>1 - h a - - - x45 <12>1 2024-02-29T23:00:00.000000Z h a - - - z45 <14>1 2024-02-29T23:30:00.000000Z h a - - - y";
+    let sorted = b"19 <13>1 - h a - - - x\
+        45 <12>1 2024-02-29T23:00:00.000000Z h a - - - z\
+        45 <14>1 2024-02-29T23:30:00.000000Z h a - - - y";
     let reversed = b"45 <14>1 2024-02-29T23:30:00.000000Z h a - - - y19 <13>1 - h a - - - x";
     let repeated = b"19 <13>1 - h a - - - x19 <13>1 - h a - - - x";
     assert!(rt; archive_or_fault(b"").is_none());
