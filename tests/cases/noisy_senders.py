@@ -414,7 +414,7 @@ def main(words):
             at = words.index(name)
             options[name] = words[at + 1]
             del words[at:at + 2]
-    if not words or not set(words[1:]) <= set(KINDS):
+    if not words or words[0].startswith("-") or not set(words[1:]) <= set(KINDS):
         print(__doc__, f"The kinds are {', '.join(KINDS)}.", file=sys.stderr)
         return 2
     with_descriptors(lambda: table(Program(words[0]), words[1:] or KINDS, float(options["--seconds"]), options["--folder"]))
