@@ -1,8 +1,8 @@
 """`serve` with noisy senders beside a good one: no datagram of the good one is lost, and each record is committed in time. And
 what a socket has of its own: room, a port, a place among the connections, a mode.
 
-The noise comes from other addresses of the loopback, and from processes of their own, which send without waiting. When a record is
-committed is seen in the journal, whose batches are opened once they are on the disk.
+The noise comes from other addresses of the loopback, and from processes of their own, which send without waiting. When a
+record is committed is seen in the journal, whose batches are opened once they are on the disk.
 
 Usage: tests/run.py noisy PROGRAM [--seconds N] [--folder FOLDER] [KIND..]
 
@@ -182,6 +182,7 @@ class Journal:
             newer = os.open(self.store / f"journal.{self.number + 1}", os.O_RDONLY)
         except FileNotFoundError:
             return
+        self.look()
         os.close(self.file)
         self.file, self.number, self.at = newer, self.number + 1, 0
 
@@ -193,12 +194,10 @@ class Journal:
 
     def watch(self, sent, answer):
         """Looks until it is told what was sent, and all of that has been seen or is lost."""
-        wanted, late, round_ = None, 0, 0
+        wanted, late = None, 0
         while wanted is None or (time.monotonic() < late and not wanted <= self.seen.keys()):
             self.look()
-            round_ += 1
-            if round_ % 50 == 0:
-                self.turn()
+            self.turn()
             if wanted is None and sent.poll():
                 wanted, late = sent.recv(), time.monotonic() + NEVER
             time.sleep(LOOK)
@@ -216,8 +215,8 @@ def at_pace(send, pace, seconds):
 
 
 def good_sender(server, connection, seconds):
-    """Sends datagrams and records of a connection at their paces. Gives how long each kind waited until it was committed; None is
-    one that was lost."""
+    """Sends datagrams and records of a connection at their paces. Gives how long each kind waited until it was committed;
+    None is one that was lost."""
     results, result = multiprocessing.Pipe(False)
     told, tell = multiprocessing.Pipe(False)
     seen, answer = multiprocessing.Pipe(False)
@@ -236,7 +235,8 @@ def good_sender(server, connection, seconds):
 
 def waits_beside(runs, kind, count, seconds):
     """How long records of a good sender wait beside noise of a kind."""
-    words = [*any_port("udp"), *any_port("counted"), *any_port("lf"), "--commit", round(1_000 * PERIOD), "--connections", 2_048]
+    words = [*any_port("udp"), *any_port("counted"), *any_port("lf"), "--commit", round(1_000 * PERIOD), "--connections", 2_048,
+             "--checkpoint", 1]  # in MiB: the records of many days are more
     with runs.server(*words) as server, server.open("lf", HERE) as connection:
         connection.sendall(record(b"stream", -1) + b"\n")
         until(lambda: record(b"stream", -1) in held(server, set()))
@@ -414,7 +414,7 @@ def main(words):
             at = words.index(name)
             options[name] = words[at + 1]
             del words[at:at + 2]
-    if not words or not set(words[1:]) <= set(KINDS):
+    if not words or words[0].startswith("-") or not set(words[1:]) <= set(KINDS):
         print(__doc__, f"The kinds are {', '.join(KINDS)}.", file=sys.stderr)
         return 2
     with_descriptors(lambda: table(Program(words[0]), words[1:] or KINDS, float(options["--seconds"]), options["--folder"]))
