@@ -39,6 +39,7 @@ const (
 	BadClock     Kind = C.SYSLOGBOX_BAD_CLOCK
 	NoElement    Kind = C.SYSLOGBOX_NO_ELEMENT
 	NoParam      Kind = C.SYSLOGBOX_NO_PARAM
+	TooLong      Kind = C.SYSLOGBOX_RECORD_TOO_LONG
 )
 
 // The fields of RFC 5424, section 6, and the names of the two archives.
@@ -57,7 +58,7 @@ const (
 	Right               Field = C.SYSLOGBOX_RIGHT
 )
 
-// The most octets of a record in a frame that the program reads, and of one in an archive.
+// The most octets of a record in a frame that the program reads, and of one in an archive or any that is read.
 const (
 	FrameMax = C.SYSLOGBOX_FRAME_MAX
 	EntryMax = C.SYSLOGBOX_ENTRY_MAX
@@ -68,6 +69,7 @@ var kinds = map[Kind]string{
 	BadFrame: "bad frame", EntryTooLong: "entry too long", BadEntry: "entry that is not a record",
 	NotCanonical: "entry that is not canonical", NotAscending: "entry that does not ascend", NoRoom: "no room",
 	NoMemory: "no memory", BadClock: "bad clock", NoElement: "no such element", NoParam: "no such parameter",
+	TooLong: "record too long",
 }
 
 var fields = map[Field]string{

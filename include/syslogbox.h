@@ -12,8 +12,9 @@
  * - Offsets and lengths count octets, from 0 on.
  * - syslogbox_check, _view, _element, _param, _frame and _pass take no memory. The others call malloc, and fail with
  *   SYSLOGBOX_NO_MEMORY if it fails.
- * - On the stack a record of up to 2,000 octets took less than 32 KiB, one of 262,144 octets less than 2 MiB, and longer
- *   ones less than 4 MiB: most of it if there are thousands of elements. A thread with less room may overflow.
+ * - No record of more than SYSLOGBOX_ENTRY_MAX octets is read: calls fail with SYSLOGBOX_RECORD_TOO_LONG.
+ * - On the stack a record of up to 2,000 octets took less than 32 KiB, and any other at most 1 MiB: most of it if there
+ *   are thousands of elements. A thread with less room may overflow.
  */
 #ifndef SYSLOGBOX_H
 #define SYSLOGBOX_H
@@ -25,10 +26,10 @@
 extern "C" {
 #endif
 
-/* The most octets of a record in a frame that the program reads. A longer one is read as well. */
+/* The most octets of a record in a frame that the program reads. The calls here read longer ones as well. */
 #define SYSLOGBOX_FRAME_MAX 262144
 
-/* The most octets of a canonical record in an archive. */
+/* The most octets of a canonical record in an archive, and of any record that is read. */
 #define SYSLOGBOX_ENTRY_MAX 524295
 
 /* What is wrong, and what the fault's offset says of it. */
@@ -49,7 +50,8 @@ enum syslogbox_kind {
     SYSLOGBOX_NO_MEMORY = 11,     /* malloc failed; the offset is 0 */
     SYSLOGBOX_BAD_CLOCK = 12,     /* the year or the offset from UTC is out of range; the offset is 0 */
     SYSLOGBOX_NO_ELEMENT = 13,    /* there is no such element: there are `offset` of them */
-    SYSLOGBOX_NO_PARAM = 14       /* there is no such parameter: there are `offset` of them */
+    SYSLOGBOX_NO_PARAM = 14,      /* there is no such parameter: there are `offset` of them */
+    SYSLOGBOX_RECORD_TOO_LONG = 15 /* the record has more than SYSLOGBOX_ENTRY_MAX octets, which is the offset */
 };
 
 /* Where: a field of RFC 5424, section 6, or which archive. */
@@ -113,8 +115,8 @@ enum syslogbox_framing {
 };
 
 /*
- * Whether the octets are a record: 1; or 0, with the fault (SYNTAX, INSTANT_RANGE or REPEATED_ID, the first of them
- * that holds).
+ * Whether the octets are a record: 1; or 0, with the fault (RECORD_TOO_LONG, SYNTAX, INSTANT_RANGE or REPEATED_ID, the
+ * first of them that holds).
  */
 int syslogbox_check(const uint8_t *record, size_t len, struct syslogbox_fault *fault);
 
@@ -154,7 +156,7 @@ int64_t syslogbox_value(const uint8_t *raw, size_t len, uint8_t *out, size_t roo
  * The next frame of a stream, which begins at `piece`. `framing` is an enum syslogbox_framing.
  *
  *   n > 0   a frame is whole: the octets from *start to *end, not including *end. It takes n octets of the stream, and
- *           the next one begins there. It may be longer than SYSLOGBOX_FRAME_MAX.
+ *           the next one begins there. It may be longer than any record that is read.
  *   0       none is whole yet: call again with more octets behind these. Where the count of a frame was read, it begins
  *           at *start and will end at *end, beyond the piece; else both are 0. A caller that keeps octets from others
  *           sets a limit of its own: a count may say up to 9,999,999,999, and a line has no end.
@@ -181,10 +183,10 @@ int64_t syslogbox_union(const uint8_t *left, size_t left_len, const uint8_t *rig
 
 /*
  * Writes the canonical octets of the record that a packet is read as, and returns how many they are; or -1, with the
- * fault (those of syslogbox_check for a packet that begins as RFC 5424 does, with PRI and "1 "; NOT_UTF8 for any other;
- * BAD_CLOCK, NO_ROOM, NO_MEMORY). A packet of another front is read by RFC 3164, section 4: `year`, from 1 to 9998, is
- * that of its timestamp, which is `offset_minutes`, from -1439 to 1439, ahead of UTC. 2 * len + 64 octets are always
- * enough.
+ * fault (BAD_CLOCK; RECORD_TOO_LONG; those of syslogbox_check for a packet that begins as RFC 5424 does, with PRI and
+ * "1 "; NOT_UTF8 for any other; NO_ROOM, NO_MEMORY). A packet of another front is read by RFC 3164, section 4: `year`,
+ * from 1 to 9998, is that of its timestamp, which is `offset_minutes`, from -1439 to 1439, ahead of UTC. 2 * len + 64
+ * octets are always enough.
  */
 int64_t syslogbox_legacy(int year, int offset_minutes, const uint8_t *packet, size_t len, uint8_t *out, size_t room,
                          struct syslogbox_fault *fault);

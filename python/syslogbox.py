@@ -35,7 +35,7 @@ __version__ = "0.3.0"
 
 #: The most octets of a record in a frame that the program reads.
 FRAME_MAX = 262_144
-#: The most octets of a record in an archive.
+#: The most octets of a record in an archive, and of any record that is read.
 ENTRY_MAX = 524_295
 
 
@@ -56,6 +56,7 @@ class Kind(enum.IntEnum):
     BAD_CLOCK = 12
     NO_ELEMENT = 13
     NO_PARAM = 14
+    RECORD_TOO_LONG = 15
     # of a stream, told by this module alone
     BAD_COUNT = 101
     TOO_LONG = 102
@@ -100,6 +101,7 @@ MEANINGS = {
     Kind.BAD_CLOCK: "the year or the offset from UTC is out of range",
     Kind.NO_ELEMENT: "there are {offset} elements",
     Kind.NO_PARAM: "there are {offset} parameters",
+    Kind.RECORD_TOO_LONG: "the record has more than {offset} octets",
     Kind.BAD_COUNT: "octet {offset} of the stream cannot belong to a count",
     Kind.TOO_LONG: "the frame at octet {offset} of the stream is too long",
     Kind.UNTERMINATED: "the stream ends inside the frame at octet {offset}",
@@ -476,7 +478,7 @@ def check_stream(stream: bytes, framing: Framing = Framing.COUNTED) -> Iterator[
     """For each frame that is not a record, its number, from 1 on, and why.
 
     It is `check` for the frames of a whole stream, and several times as fast, since one call passes over all records up to
-    the next frame that is not one. A frame of any length is read. Raises StreamError, with the position, if there is no
+    the next frame that is not one. A frame may be longer than `FRAME_MAX`. Raises StreamError, with the position, if there is no
     count where a frame should begin, or if the stream ends inside a frame.
     """
     count, start, end = ctypes.c_size_t(), ctypes.c_size_t(), ctypes.c_size_t()

@@ -7,16 +7,20 @@
  *   calls union LEFT RIGHT          writes the union of two archives, or prints its fault
  *   calls nulls                     null pointers with a length of 0
  *   calls memory                    prints which calls fail for memory, under a malloc that fails (tests/lib/shim.c)
+ *   calls costs FILE                prints of each call that reads the record what it answers, how many octets of stack it takes,
+ *                                   and how many milliseconds
  *
  * Octets stand right before memory that may not be touched, so that an octet too far ends the run; each call gets a room that is just
  * large enough, one that is larger and one that is an octet too small. The first answer that is wrong is printed, and the status is 1.
  */
 #define _DEFAULT_SOURCE
+#include <pthread.h>
 #include <stdio.h>
 #include <stdlib.h>
 #include <string.h>
 #include <sys/mman.h>
 #include <syslogbox.h>
+#include <time.h>
 #include <unistd.h>
 
 #define EXPECT(holds)                                                        \
@@ -457,6 +461,112 @@ static void memory(void)
     takes_memory("legacy\n", legacy, &packet);
 }
 
+/* A call that reads a record, by its name. */
+struct reading {
+    const char *name;
+    int64_t (*call)(struct octets record, struct octets out);
+};
+
+static int64_t checks(struct octets record, struct octets out)
+{
+    (void)out;
+    return syslogbox_check(record.at, record.len, NULL);
+}
+
+static int64_t writes_canonical(struct octets record, struct octets out)
+{
+    return syslogbox_canonical(record.at, record.len, out.at, out.len, NULL);
+}
+
+static int64_t views(struct octets record, struct octets out)
+{
+    struct syslogbox_parts p;
+    (void)out;
+    return syslogbox_view(record.at, record.len, &p, NULL);
+}
+
+static int64_t finds_element(struct octets record, struct octets out)
+{
+    struct syslogbox_element e;
+    (void)out;
+    return syslogbox_element(record.at, record.len, 1, &e, NULL);
+}
+
+static int64_t finds_param(struct octets record, struct octets out)
+{
+    struct syslogbox_param q;
+    (void)out;
+    return syslogbox_param(record.at, record.len, 1, 0, &q, NULL);
+}
+
+static int64_t passes_over(struct octets record, struct octets out)
+{
+    size_t count;
+    (void)out;
+    return syslogbox_pass(SYSLOGBOX_LF, record.at, record.len, &count);
+}
+
+static int64_t reads_packet(struct octets record, struct octets out)
+{
+    return syslogbox_legacy(2003, 0, record.at, record.len, out.at, out.len, NULL);
+}
+
+struct run {
+    struct reading reading;
+    struct octets record, out;
+    int64_t answer;
+    double milliseconds;
+};
+
+static void *runs(void *argument)
+{
+    struct run *run = argument;
+    struct timespec from, to;
+
+    clock_gettime(CLOCK_THREAD_CPUTIME_ID, &from);
+    run->answer = run->reading.call(run->record, run->out);
+    clock_gettime(CLOCK_THREAD_CPUTIME_ID, &to);
+    run->milliseconds = (double)(to.tv_sec - from.tv_sec) * 1e3 + (double)(to.tv_nsec - from.tv_nsec) / 1e6;
+    return NULL;
+}
+
+/* Runs a call on a stack that is filled before, so that what it takes of it can be seen. */
+static size_t stack_of(struct run *run)
+{
+    struct octets stack = of_length(8 << 20);
+    pthread_attr_t attributes;
+    pthread_t thread;
+    size_t left = 0;
+
+    if (pthread_attr_init(&attributes) || pthread_attr_setstack(&attributes, stack.at, stack.len)
+        || pthread_create(&thread, &attributes, runs, run) || pthread_join(thread, NULL))
+        abort();
+    while (left < stack.len && stack.at[left] == FILLED)
+        left++;
+    left = stack.len - left;
+    release(stack);
+    return left;
+}
+
+/* The record of a file, which ends with a line feed, is read by each call. */
+static void costs(const char *name)
+{
+    static const struct reading readings[] = {
+        {"check", checks}, {"canonical", writes_canonical}, {"view", views}, {"element", finds_element},
+        {"param", finds_param}, {"pass", passes_over}, {"legacy", reads_packet},
+    };
+    struct octets line = of_file(name), out = of_length(2 * line.len + 64);
+
+    for (size_t i = 0; i < sizeof readings / sizeof *readings; i++) {
+        struct run run = {.reading = readings[i], .record = line, .out = out};
+        run.record.len -= run.reading.call != passes_over;
+        size_t stack = stack_of(&run);
+        printf("%s %lld %zu %.3f\n", run.reading.name, (long long)run.answer, stack, run.milliseconds);
+    }
+    release(out);
+    release(line);
+}
+
 int main(int argc, char **argv)
 {
     const char *mode = argc > 1 ? argv[1] : "";
@@ -478,6 +588,8 @@ int main(int argc, char **argv)
         nulls();
     } else if (!strcmp(mode, "memory")) {
         memory();
+    } else if (!strcmp(mode, "costs") && argc == 3) {
+        costs(argv[2]);
     } else {
         return 2;
     }

@@ -12,6 +12,7 @@ import subprocess
 import sys
 from random import Random
 
+from cases.colliding_ids import FRONT, STACK, colliding, data, fitting, ids, most
 from cases.legacy import changed, forms, zone
 from cases.mutated import mutations
 from cases.rows import MERGED, RECORDS, REFUSED
@@ -24,6 +25,9 @@ FIELDS = [b"", b"priority", b"version", b"timestamp", b"hostname", b"app-name", 
           b"left", b"right"]
 SANITIZED = ["-g", "-O1", "-fsanitize=address,undefined", "-fno-sanitize-recover=all", "-Wall", "-Wextra", "-Werror"]
 COUNT = 100_000
+TOO_LONG = 15, 0, reference.ENTRY_MAX
+LONGEST = b"<0>1 - - - - - - " + b"x" * (reference.ENTRY_MAX - 17)  # a record of as many octets as are read
+MOST = 1_000  # milliseconds that a call takes at most
 
 
 def numbers(told):
@@ -52,12 +56,13 @@ def written(folder, name, frames, answers):
 
 
 def known(program):
-    """The rows and random octets, with the program's answers; of a frame that is too long the library knows nothing."""
+    """The rows and random octets, with the program's answers, and octets that are longer than frames of the program."""
     rows = [(record, form) for _, record, form in RECORDS]
     rows += [(octets, numbers(told)) for _, octets, told in REFUSED if told != b"too-long"]
     random = Random(7)
     frames = mutations(COUNT // 2) + [random.randbytes(1 + random.randrange(60)) for _ in range(COUNT // 2)]
-    return [row[0] for row in rows] + frames, [row[1] for row in rows] + of_program(program, frames)
+    answers = [row[1] for row in rows] + of_program(program, frames)
+    return [row[0] for row in rows] + frames + [LONGEST, LONGEST + b"x"], answers + [LONGEST, TOO_LONG]
 
 
 def compiled(folder, name, sources, *words):
@@ -81,16 +86,41 @@ def in_c(program, results, folder, frames, answers):
         told = of_program(program, some, "--legacy", str(year), "--zone", zone(minutes))
         packed = written(folder, "packets", some, told)
         results.same(f"C: packets of {year}", run(calls, ["legacy", str(year), str(minutes), packed]), (0, b"", b""))
+    packet = b"x" * reference.ENTRY_MAX
+    packed = written(folder, "packets", [packet, packet + b"x"], [b"<13>1 - - - - - - " + packet, TOO_LONG])
+    results.same("C: packets that are long", run(calls, ["legacy", "2024", "0", packed]), (0, b"", b""))
     streams(program, results, folder, calls, frames)
     unions(program, results, folder, calls)
-    without_memory(program, results, folder)
-
-
-def without_memory(program, results, folder):
-    """Each call of malloc fails in turn: one call of the library fails for it, and those that take no memory never do."""
     calls, built, said = compiled(folder, "unsanitized", [ROOT / "tests/bindings/calls.c"], "-O1")
     results.check("C: the calls are compiled without sanitizers", built, said)
-    refused = []
+    if built:
+        without_memory(program, results, calls)
+        hardest(results, folder, calls)
+
+
+def hardest(results, folder, calls):
+    """What records take that have as many octets as are read, and many ids; and that one with an octet more is read by no call."""
+    room = reference.ENTRY_MAX - len(FRONT) - 1
+    scattered = fitting(ids(3), room)
+    for name, names in [("as many as fit", most(room)), ("all of three octets", scattered),
+                        ("descending", sorted(scattered, reverse=True)), ("that collide", fitting(colliding() + scattered, room))]:
+        record = FRONT + data(names) + b" "
+        record += b"x" * (reference.ENTRY_MAX - len(record))
+        form = len(record) + 3
+        read = {"check": 1, "canonical": form, "view": 1, "element": 1, "param": 0, "pass": len(record) + 1, "legacy": form}
+        none = {"check": 0, "canonical": -1, "view": 0, "element": 0, "param": 0, "pass": 0, "legacy": -1}
+        for octets, right in [(record, read), (record + b"x", none)]:
+            status, output, notes = run(calls, ["costs", folder.file("record", octets + b"\n")])
+            rows = [line.split() for line in output.decode().splitlines()]
+            seen = status, {row[0]: int(row[1]) for row in rows}
+            results.check(f"C: {len(octets)} octets of ids, {name}", seen == (0, right), f"{seen} {notes}")
+            taken = max([int(row[2]) for row in rows], default=0), max([float(row[3]) for row in rows], default=0)
+            results.check(f"C: stack and time of {len(octets)} octets of ids, {name}", taken[0] <= STACK and taken[1] <= MOST, str(taken))
+
+
+def without_memory(program, results, calls):
+    """Each call of malloc fails in turn: one call of the library fails for it, and those that take no memory never do."""
+    refused, built = [], True
     while built:
         status, name, notes = run(calls, ["memory"], environment=program.failing(malloc=len(refused) + 1))
         if (status, name, notes) == (0, b"", b""):
@@ -179,7 +209,9 @@ def in_python(program, results, folder, frames, answers):
         results.check(f"Python: a legacy packet {packet!r}", module.legacy(packet, year, minutes) == form)
     for call, kind in [(lambda: module.legacy(b"x", 10_000), "BAD_CLOCK"), (lambda: module.legacy(b"x", 2 ** 40), "BAD_CLOCK"),
                        (lambda: module.legacy(b"\xef\xbb\xbf\xff", 2024), "NOT_UTF8"), (lambda: module.union(b"", b"x"), "BAD_FRAME"),
-                       (lambda: module.legacy(b"<0>1 ", 2024), "SYNTAX"), (lambda: module.canonical(b""), "SYNTAX")]:
+                       (lambda: module.legacy(b"<0>1 ", 2024), "SYNTAX"), (lambda: module.canonical(b""), "SYNTAX"),
+                       (lambda: module.legacy(b"x" + LONGEST, 2024), "RECORD_TOO_LONG"),
+                       (lambda: module.view(LONGEST + b"x"), "RECORD_TOO_LONG")]:
         results.check(f"Python: {kind} is raised", kind_of(module, call) == kind)
     for left, right in archives(program):
         status, output, _ = program.run(["merge", folder.file("left", left), folder.file("right", right)])

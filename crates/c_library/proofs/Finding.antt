@@ -3,13 +3,14 @@ use Rattle.std.proofs.Common.{◌≡◌, ℕ, ◌+◌, ◌-◌, ◌≤◌, List,
 use Rattle.std.proofs.Common.{arith}
 use Rattle.std.proofs.lemmas.List.{append-nil, length-append}
 use Rattle.syslog_reading.specs.ViewParts.{IsViewOf, ViewParts}
+use Rattle.c_library.specs.Faults.{IsWithin}
 use Rattle.c_library.specs.Parts.{Spells}
 use Rattle.c_library.specs.Spans.{LiesAt}
 use Rattle.c_library.proofs.Laying.{lies_within}
 
 -- a view shows a record that the octets spell
-pub spelled : (b : List ℕ) (s : ViewParts) → (seen : IsViewOf b s) → Spells b seen.0
-spelled b s seen = record { text = seen.1; in_range = seen.2; distinct = seen.3 }
+pub spelled : (b : List ℕ) (s : ViewParts) → IsWithin b → (seen : IsViewOf b s) → Spells b seen.0
+spelled b s within seen = record { within = within; text = seen.1; in_range = seen.2; distinct = seen.3 }
 
 pub rest_within : (text rest front : List ℕ) → text ≡ front ++ rest → length rest ≤ length text
 rest_within text rest front e = omega (arith, ap length e, length-append front rest)

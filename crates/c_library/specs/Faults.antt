@@ -1,9 +1,13 @@
 -- Faults by the numbers of include/syslogbox.h.
-use Rattle.std.specs.Prelude.{◌≡◌, ℕ}
+use Rattle.std.specs.Prelude.{◌≡◌, ℕ, ◌<◌, ◌≤◌, ◌⊎◌, List, length}
+use Rattle.octet_language.specs.Language.{AnyOf}
 use Rattle.syslog_reading.specs.declared.fault.Field.{Field}
 use Rattle.syslog_reading.specs.declared.fault.Field.TheVariants as field
 use Rattle.syslog_reading.specs.declared.fault.Fault.{Fault}
 use Rattle.syslog_reading.specs.declared.fault.Fault.TheVariants.{Syntax, InstantRange, RepeatedId}
+use Rattle.syslog_reading.specs.Faults.{FaultOf}
+use Rattle.syslog_reading.specs.WellFormed.{WellFormed}
+use Rattle.archive_text.specs.declared.limits.TheConstants.{ENTRY_MAX}
 use Rattle.archive_text.specs.declared.fault.ArchiveFault.{ArchiveFault}
 use Rattle.archive_text.specs.declared.fault.ArchiveFault.TheVariants.{BadFrame, EntryTooLong, BadEntry, NotCanonical}
 use Rattle.archive_text.specs.declared.fault.ArchiveFault.TheVariants.{NotAscending}
@@ -65,3 +69,21 @@ param_fault count = plain_fault 14 count
 -- one of these faults is told, by its numbers
 abbrev pub Tells : {F : Type 0} → (F → SyslogboxFault) → (F → Type 0) → SyslogboxFault → Type 0
 Tells {F} numbers Is told = (fault : F) × Is fault × (told ≡ numbers fault)
+
+-- ---- records that are read
+
+-- there are no more octets than an entry of an archive may have
+abbrev pub IsWithin : List ℕ → Type 0
+IsWithin b = length b ≤ ENTRY_MAX
+
+-- a record that is read
+abbrev pub IsRead : List ℕ → Type 0
+IsRead b = IsWithin b × AnyOf WellFormed b
+
+-- there are more octets than are read, which is told
+abbrev pub IsTooLong : List ℕ → SyslogboxFault → Type 0
+IsTooLong b told = (ENTRY_MAX < length b) × (told ≡ plain_fault 15 ENTRY_MAX)
+
+-- why octets are no record that is read: they are too many, or no record
+abbrev pub IsNotRead : List ℕ → SyslogboxFault → Type 0
+IsNotRead b told = IsTooLong b told ⊎ (IsWithin b × Tells record_fault (FaultOf b) told)

@@ -5,8 +5,7 @@ use Rattle.syslog_value.specs.Parts.{ElementParts, ParamParts, Parts}
 use Rattle.syslog_fields.specs.Grammar.{Param}
 use Rattle.syslog_fields.specs.Time.{CivilTime}
 use Rattle.syslog_fields.specs.Values.{Spells as SpellsValue}
-use Rattle.syslog_reading.specs.Faults.{FaultOf}
-use Rattle.c_library.specs.Faults.{Tells, element_fault, param_fault, record_fault}
+use Rattle.c_library.specs.Faults.{IsNotRead, element_fault, param_fault}
 use Rattle.c_library.specs.Parts.{Spells}
 use Rattle.c_library.specs.Spans.{LiesAt, Spans}
 use Rattle.c_library.specs.declared.element.FoundElement.{FoundElement}
@@ -72,10 +71,10 @@ abbrev pub IsElementNumber : List ℕ → ℕ → SyslogboxElement → Type 0
 IsElementNumber b n c =
     (p : Parts CivilTime) × Spells b p × (e : ElementParts) × IsNumber p.elements n e × ShowsElement b e c
 
--- the octets are no record; or one that has no element number n
+-- the octets are no record that is read; or one that has no element number n
 abbrev pub HasNoElement : List ℕ → ℕ → SyslogboxFault → Type 0
 HasNoElement b n told =
-    Tells record_fault (FaultOf b) told
+    IsNotRead b told
     ⊎ ((p : Parts CivilTime) × Spells b p × (length p.elements ≤ n) × (told ≡ element_fault (length p.elements)))
 
 -- the octets spell a record, and this shows parameter number m of its element number n
@@ -84,7 +83,7 @@ IsParamNumber b n m c =
     (p : Parts CivilTime) × Spells b p × (e : ElementParts) × IsNumber p.elements n e
     × (q : ParamParts) × IsNumber e.params m q × ShowsParam b q c
 
--- the octets are no record, or have no element number n; or that element has no parameter number m
+-- the octets are no record that is read, or have no element number n; or that element has no parameter number m
 abbrev pub HasNoParam : List ℕ → ℕ → ℕ → SyslogboxFault → Type 0
 HasNoParam b n m told =
     HasNoElement b n told

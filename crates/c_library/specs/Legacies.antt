@@ -9,7 +9,7 @@ use Rattle.syslog_legacy.specs.ClockReadings.{IsNotUtf8At, IsReadAs}
 use Rattle.syslog_legacy.specs.NewForm.{HasNewForm}
 use Rattle.syslog_legacy.specs.declared.clock.Dialect.TheVariants.{Bsd}
 use Rattle.syslog_legacy.specs.declared.clock.LegacyClock.{LegacyClock}
-use Rattle.c_library.specs.Faults.{Tells, clock_fault, memory_fault, record_fault, utf8_fault}
+use Rattle.c_library.specs.Faults.{IsTooLong, IsWithin, Tells, clock_fault, memory_fault, record_fault, utf8_fault}
 use Rattle.c_library.specs.declared.fault.SyslogboxFault.{SyslogboxFault}
 
 -- a year from 1 to 9998, and an offset of less than a day either way
@@ -25,14 +25,17 @@ pub record IsClockOf (year offset : ℤ) (clock : LegacyClock) : Type 0 where
 -- the canonical text of the record that a packet is read as
 abbrev pub LegacyOf : ℤ → ℤ → List ℕ → Language
 LegacyOf year offset b text =
-    (clock : LegacyClock) × IsClockOf year offset clock × (r : Parts ℤ) × IsReadAs (Some clock) r b × Canonical r text
+    IsWithin b × (clock : LegacyClock) × IsClockOf year offset clock × (r : Parts ℤ) × IsReadAs (Some clock) r b × Canonical r text
 
--- a packet with the front of RFC 5424 is no record of it; or one without has a message that is no UTF-8
+-- a packet is too long; or one with the front of RFC 5424 is no record of it; or one without has a message that is no
+-- UTF-8
 abbrev pub IsUnreadable : LegacyClock → List ℕ → SyslogboxFault → Type 0
 IsUnreadable clock b told =
-    (HasNewForm b × Tells record_fault (FaultOf b) told) ⊎ Tells utf8_fault (λ at. IsNotUtf8At (Some clock) at b) told
+    IsTooLong b told
+    ⊎ (IsWithin b
+    × ((HasNewForm b × Tells record_fault (FaultOf b) told) ⊎ Tells utf8_fault (λ at. IsNotUtf8At (Some clock) at b) told))
 
--- why a packet has no canonical text: there is no such clock; under the clock it is no record; or there is no memory
+-- why a packet has no canonical text: there is no such clock; under the clock it is no record that is read; or there is no memory
 abbrev pub IsNoLegacy : ℤ → ℤ → List ℕ → SyslogboxFault → Type 0
 IsNoLegacy year offset b told =
     (¬ (IsClock year offset) × (told ≡ clock_fault))

@@ -6,12 +6,14 @@ use Rattle.syslog_fields.specs.Grammar.{StructuredDataText, SyslogMsg}
 use Rattle.syslog_fields.specs.Time.{CivilTime, instant}
 use Rattle.syslog_reading.specs.Faults.{AreDistinct, IsInRange}
 use Rattle.syslog_reading.specs.ViewParts.{ViewParts, octets_of}
+use Rattle.c_library.specs.Faults.{IsWithin}
 use Rattle.c_library.specs.Spans.{LiesAt, Spans, SpansWord}
 use Rattle.c_library.specs.declared.layout.Layout.{Layout}
 use Rattle.c_library.specs.declared.parts.SyslogboxParts.{SyslogboxParts}
 
--- the octets spell a record of these parts, with its elements in their order
+-- the octets spell a record of these parts that is read, with its elements in their order
 pub record Spells (b : List ℕ) (p : Parts CivilTime) : Type 0 where
+  pub within : IsWithin b
   pub text : SyslogMsg p b
   pub in_range : IsInRange p
   pub distinct : AreDistinct p.elements

@@ -1,15 +1,15 @@
 -- Frames at the front of a piece that are records.
 use Rattle.std.specs.Prelude.{◌≡◌, ℕ, ℤ, pos, negsuc, ◌+◌, List, ◌++◌, ◌⊎◌, length}
 use Rattle.std.specs.List.{AllByRecursion, flat_map}
-use Rattle.octet_language.specs.Language.{AnyOf, NoPrefix}
+use Rattle.octet_language.specs.Language.{NoPrefix}
 use Rattle.syslog_frame.specs.Frames.{CanCarry, Whole, framed}
 use Rattle.syslog_frame.specs.declared.framing.Framing.{Framing}
-use Rattle.syslog_reading.specs.WellFormed.{WellFormed}
+use Rattle.c_library.specs.Faults.{IsRead}
 use Rattle.c_library.specs.Frames.{framing_number}
 
--- a frame that is a record
+-- a frame that is a record, and is read
 abbrev pub IsGood : Framing → List ℕ → Type 0
-IsGood kind f = CanCarry kind f × AnyOf WellFormed f
+IsGood kind f = CanCarry kind f × IsRead f
 
 -- a frame comes first that is a record, and so the piece goes on
 abbrev pub BeginsGood : Framing → List ℕ → List ℕ → Type 0
@@ -19,7 +19,7 @@ BeginsGood kind piece behind = (f : List ℕ) × IsGood kind f × (piece ≡ fra
 abbrev pub BeginsNoGood : Framing → List ℕ → Type 0
 BeginsNoGood kind piece =
     NoPrefix (Whole kind) piece
-    ⊎ ((f : List ℕ) × (behind : List ℕ) × CanCarry kind f × ¬ (AnyOf WellFormed f) × (piece ≡ framed kind f ++ behind))
+    ⊎ ((f : List ℕ) × (behind : List ℕ) × CanCarry kind f × ¬ (IsRead f) × (piece ≡ framed kind f ++ behind))
 
 -- so many frames, which take so many octets, are records, and the next one is none
 pub record Passes (kind : Framing) (piece : List ℕ) (taken count : ℕ) : Type 0 where

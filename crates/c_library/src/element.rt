@@ -12,6 +12,7 @@ use crate::layout::layout_of;
 use crate::numbers::NO_ELEMENT;
 use crate::span::SyslogboxSpan;
 use crate::walk::{count_params, elements_text, from_element};
+use archive_text::ENTRY_MAX;
 use syslog_grammar::view;
 use syslog_reading::first_element::first_element;
 
@@ -52,10 +53,13 @@ fn split_element(text: &[u8]) -> (&[u8], &[u8])
 }
 
 /// Finds element number `n`, from 0, of the record that the octets are. It fails with their fault,
-/// or if there are no more than `n` elements.
+/// if they are too many, or if there are no more than `n` elements.
 pub fn find_element(octets: &[u8], n: usize) -> Result<FoundElement<'_>, SyslogboxFault>
     ensures { MatchResult result (IsFound octets.now n) (HasNoElement octets.now n) }
 {
+    if octets.len() > ENTRY_MAX {
+        return Err(SyslogboxFault::too_long());
+    }
     let shown = match view(octets) {
         Ok(shown) => shown,
         Err(fault) => return Err(SyslogboxFault::of_record(fault)),

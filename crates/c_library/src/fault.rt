@@ -1,14 +1,15 @@
 //! Why a call refused, as C sees it.
 
 ghost use Rattle.std.specs.Prelude.{◌≡◌};
+ghost use Rattle.archive_text.specs.declared.limits.TheConstants.{ENTRY_MAX};
 ghost use Rattle.c_library.specs.Faults.{archive_fault, field_number, plain_fault, record_fault};
 
 use crate::numbers::{
     APP_NAME, BAD_ENTRY, BAD_FRAME, ENTRY_TOO_LONG, HOSTNAME, INSTANT_RANGE, MESSAGE, MSG_ID,
-    NO_FIELD, NOT_ASCENDING, NOT_CANONICAL, PRIORITY, PROC_ID, REPEATED_ID, STRUCTURED_DATA,
-    SYNTAX, TIMESTAMP, VERSION,
+    NO_FIELD, NOT_ASCENDING, NOT_CANONICAL, PRIORITY, PROC_ID, RECORD_TOO_LONG, REPEATED_ID,
+    STRUCTURED_DATA, SYNTAX, TIMESTAMP, VERSION,
 };
-use archive_text::ArchiveFault;
+use archive_text::{ArchiveFault, ENTRY_MAX};
 use syslog_grammar::{Fault, Field};
 
 /// Why a call refused.
@@ -50,6 +51,13 @@ impl SyslogboxFault {
             field: NO_FIELD,
             offset,
         }
+    }
+
+    /// The fault of more octets than an entry of an archive may have, of which no record is read.
+    pub fn too_long() -> SyslogboxFault
+        ensures { result ≡ plain_fault 15 ENTRY_MAX }
+    {
+        SyslogboxFault::new(RECORD_TOO_LONG, ENTRY_MAX as u64)
     }
 
     /// Why octets are no record.

@@ -8,6 +8,7 @@ use crate::answer::answer;
 use crate::canonical::canonical_text;
 use crate::fault::SyslogboxFault;
 use crate::numbers::{BAD_CLOCK, NO_MEMORY, NOT_UTF8};
+use archive_text::ENTRY_MAX;
 use std::alloc::Global;
 use syslog_legacy::{LegacyClock, has_new_form, legacy_view, put_legacy_canonical};
 
@@ -34,6 +35,9 @@ fn legacy_text(
     let Some(clock) = clock_of(year, offset_minutes) else {
         return Err(SyslogboxFault::new(BAD_CLOCK, 0));
     };
+    if packet.len() > ENTRY_MAX {
+        return Err(SyslogboxFault::too_long());
+    }
     if has_new_form(packet) {
         return canonical_text(alloc, packet);
     }

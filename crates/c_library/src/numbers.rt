@@ -44,6 +44,9 @@ pub const NO_ELEMENT: u32 = 13;
 /// There is no such parameter: the offset is how many there are.
 pub const NO_PARAM: u32 = 14;
 
+/// The record has more octets than are read: the offset is how many may be.
+pub const RECORD_TOO_LONG: u32 = 15;
+
 // enum syslogbox_field
 /// No field, as the kind of the fault names none.
 pub const NO_FIELD: u32 = 0;

@@ -5,6 +5,7 @@ ghost use Rattle.syslog_value.specs.Parts.{Parts};
 ghost use Rattle.syslog_fields.specs.Canonical.{word_form};
 ghost use Rattle.syslog_fields.specs.Time.{CivilTime};
 ghost use Rattle.syslog_reading.specs.ViewParts.{IsViewOf, octets_of, view_parts};
+ghost use Rattle.c_library.specs.Faults.{IsWithin};
 ghost use Rattle.c_library.specs.Parts.{Shows, ShowsTime, Spells};
 ghost use Rattle.c_library.specs.Spans.{LiesAt, Spans, SpansWord};
 
@@ -82,7 +83,8 @@ fn message_span(octets: &[u8], view: &RecordView<'_>) -> SyslogboxSpan
 
 /// The parts of the record that the octets are.
 pub fn parts_of(octets: &[u8], view: &RecordView<'_>) -> SyslogboxParts
-    requires { IsViewOf octets.now (view_parts view.now) }
+    requires view { IsViewOf octets.now (view_parts view.now) }
+    requires within { IsWithin octets.now }
     ensures { (p : Parts CivilTime) × Spells octets.now p × Shows octets.now p result }
 {
     let at = layout_of(octets, view);

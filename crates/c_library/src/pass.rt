@@ -4,9 +4,9 @@ ghost use Rattle.std.specs.Prelude.{MatchOption};
 ghost use Rattle.c_library.specs.Frames.{IsNextFrame};
 ghost use Rattle.c_library.specs.Passing.{BeginsGood, BeginsNoGood, Passes, PassesOver};
 
+use crate::check::refusal;
 use crate::frame::{NextFrame, framing_of, next_counted, next_line};
 use syslog_frame::Framing;
-use syslog_grammar::{fault_of, faulty_octets_are_no_record};
 
 /// What comes first in a framing.
 #[inline(always)]
@@ -19,13 +19,12 @@ fn next_frame(kind: Framing, piece: &[u8]) -> NextFrame
     }
 }
 
-/// What follows the frame that comes first, if that is a record.
+/// What follows the frame that comes first, if that is a record that is read.
 #[inline(always)]
 fn behind_record(kind: Framing, piece: &[u8]) -> Option<&[u8]>
     ensures { MatchOption result (BeginsNoGood kind piece.now)
         (λ behind. BeginsGood kind piece.now behind.now) }
 {
-    faulty_octets_are_no_record();
     let (start, end, used) = match next_frame(kind, piece) {
         NextFrame::Complete { start, end, used } => (start, end, used),
         NextFrame::Waits { .. } => return None,
@@ -34,7 +33,7 @@ fn behind_record(kind: Framing, piece: &[u8]) -> Option<&[u8]>
     let (_, from_start) = piece.split_at(start);
     let (frame, _) = from_start.split_at(end - start);
     let (_, behind) = piece.split_at(used);
-    match fault_of(frame) {
+    match refusal(frame) {
         None => Some(behind),
         Some(_fault) => None,
     }

@@ -17,7 +17,7 @@ returns-in-Err-from_element c =
     let few = c.in-Err-from_element.ensures es each in
     inr (
       seen.0,
-      spelled b (view_parts c.in-Ok.shown) seen,
+      spelled b (view_parts c.in-Ok.shown) (omega (arith, c.if-octets-gt-ENTRY_MAX.false)) seen,
       omega (arith, few.0, few.1),
       c.new.ensures ∙ ap (λ (k : ℕ). plain_fault 13 k) few.0,
     )
@@ -67,7 +67,7 @@ returns c =
     let at = c.layout_of.result.structured_data in
     record {
       parts = seen.0;
-      spells = spelled b (view_parts c.in-Ok.shown) seen;
+      spells = spelled b (view_parts c.in-Ok.shown) (omega (arith, c.if-octets-gt-ENTRY_MAX.false)) seen;
       element = from.0;
       number = from.2;
       id_is = split.id_is;

@@ -1,4 +1,4 @@
-use Rattle.std.proofs.Common.{List, ℕ, ◌++◌, ap, inl, inr, subst, sym, ◌∙◌}
+use Rattle.std.proofs.Common.{List, ℕ, ◌++◌, ap, arith, inl, inr, subst, sym, ◌∙◌}
 use Rattle.std.proofs.lemmas.Int.{to_z-of_z}
 use Rattle.std.proofs.lemmas.Result.{MatchResult-weaker}
 use mir.Syntax.{w32}
@@ -15,12 +15,20 @@ use Rattle.c_library.proofs.legacy.legacy_text.Goals as goal
 -- a packet with the front of RFC 5424 is read so under any clock
 new_refused : (year offset : ℤ) (b : List ℕ) (clock : LegacyClock) (told : SyslogboxFault) → IsClockOf year offset clock
     → HasNewForm b → IsNoRecord b told → IsNoLegacy year offset b told
-new_refused year offset b clock told is new (inl h) = inr (inl (clock, is, inl (new, h)))
+new_refused year offset b clock told is new (inl (inl long)) = inr (inl (clock, is, inl long))
+new_refused year offset b clock told is new (inl (inr (within, h))) = inr (inl (clock, is, inr (within, inl (new, h))))
 new_refused year offset b clock told is new (inr h) = inr (inr h)
 
 new_read : (year offset : ℤ) (b text : List ℕ) (clock : LegacyClock) → IsClockOf year offset clock → HasNewForm b
     → CanonicalOf b text → LegacyOf year offset b text
-new_read year offset b text clock is new (r, h, k) = (clock, is, r, inl (new, h), k)
+new_read year offset b text clock is new (within, r, h, k) = (within, clock, is, r, inl (new, h), k)
+
+pub returns-then-packet-gt-ENTRY_MAX : goal.returns-then-packet-gt-ENTRY_MAX
+returns-then-packet-gt-ENTRY_MAX c =
+    let is =
+    rw (to_z-of_z w32 c.args.year c.ranges.year, to_z-of_z w32 c.args.offset_minutes c.ranges.offset_minutes)
+    at c.in-Some.ensures in
+    inr (inl (c.in-Some.clock, is, inl (omega (arith, c.if-packet-gt-ENTRY_MAX.true), c.too_long.ensures)))
 
 pub returns-then-has_new_form : goal.returns-then-has_new_form
 returns-then-has_new_form c =
@@ -41,7 +49,10 @@ returns-in-Err c =
     inr (inl (
       c.in-Some.clock,
       is,
-      inr (c.in-Err.fault.offset, (old, c.in-Err.ensures), c.new-in-Err.ensures),
+      inr (
+        omega (arith, c.if-packet-gt-ENTRY_MAX.false),
+        inr (c.in-Err.fault.offset, (old, c.in-Err.ensures), c.new-in-Err.ensures),
+      ),
     ))
 
 pub returns-in-Ok-put_legacy_canonical : goal.returns-in-Ok-put_legacy_canonical
@@ -52,6 +63,7 @@ returns-in-Ok-put_legacy_canonical c =
     let old : ¬ (HasNewForm c.args.packet.now) = λ new. (let on = c.has_new_form.ensures.1 new in absurd cc) in
     let r = legacy_view_parts c.in-Ok.view in
     let adds = c.in-Ok-put_legacy_canonical.ensures in (
+      omega (arith, c.if-packet-gt-ENTRY_MAX.false),
       c.in-Some.clock,
       is,
       r,

@@ -1,7 +1,6 @@
 use Rattle.std.proofs.Common.{◌≡◌, ℕ, ◌-◌, List, ◌++◌, ap, drop, inr, subst, sym, take, ◌∙◌}
-use Rattle.octet_language.specs.Language.{AnyOf}
 use Rattle.syslog_frame.specs.Frames.{framed}
-use Rattle.syslog_reading.specs.WellFormed.{WellFormed}
+use Rattle.c_library.specs.Faults.{IsRead}
 use Rattle.c_library.proofs.Passing.{frame_is, frame_parts}
 use Rattle.c_library.proofs.pass.behind_record.Goals as goal
 
@@ -16,7 +15,7 @@ returns-in-None c =
     c.split_at-2.ensures.front ∙ ap (λ (u : List ℕ). take (end - start) u) c.split_at.ensures.back
     ∙ frame_is c.args.kind b start end used h in (
       h.frame,
-      (h.whole.0, subst (AnyOf WellFormed) same c.in-None.ensures),
+      (h.whole.0, subst IsRead same c.in-None.ensures.read),
       frame_parts c.args.kind b start end used h
           ∙ ap (λ (u : List ℕ). framed c.args.kind h.frame ++ u) (sym c.split_at-3.ensures.back),
     )
@@ -35,7 +34,6 @@ returns-in-Some c =
       h.frame,
       drop used b,
       h.whole.0,
-      (λ good. c.faulty_octets_are_no_record.ensures c.split_at-2.result.0.now c.in-Some._fault c.in-Some.ensures
-          (subst (AnyOf WellFormed) (sym same) good)),
+      (λ good. c.in-Some.ensures.none (subst IsRead (sym same) good)),
       frame_parts c.args.kind b start end used h,
     )
