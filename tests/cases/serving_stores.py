@@ -233,6 +233,10 @@ def boot_id():
         return b""
 
 
+def equal(runs, name, seen, right):
+    runs.results.check(name, seen == right, f"{seen} for {right}")
+
+
 def journals_of(store):
     return {name: octets for name, octets in files_of(store).items() if JOURNAL.fullmatch(name)}
 
@@ -248,10 +252,10 @@ def started(runs, what, store, is_anew, right, environment=None):
         runs.holds(what, server, *right)
         runs.ends(what, server, 0, *([ANEW] if is_anew else []))
     (now, found), *more = journals_of(store).items()
-    runs.results.same(f"{what}: one journal", (others, more), ([], []))
-    runs.results.same(f"{what}: its name", now, next_name(name) if is_anew else name)
+    equal(runs, f"{what}: one journal", (others, more), ([], []))
+    equal(runs, f"{what}: its name", now, next_name(name) if is_anew else name)
     runs.results.check(f"{what}: its batches", octets.startswith(found[:-1]), str((octets, found)))
-    runs.results.same(f"{what}: its note", (store / "lock").read_bytes(), b"synced %b\n" % boot_id())
+    equal(runs, f"{what}: its note", (store / "lock").read_bytes(), b"synced %b\n" % boot_id())
 
 
 def fails_at_sync(runs, store):
@@ -263,7 +267,7 @@ def fails_at_sync(runs, store):
             if server.process.poll() is None and server.places():
                 committed = server.held()
                 fling(server, one)
-        runs.results.same("a sync fails: status", server.status(), 2)
+        equal(runs, "a sync fails: status", server.status(), 2)
     return committed
 
 
@@ -272,7 +276,7 @@ def written_anew(runs):
     store = runs.store()
     committed = fails_at_sync(runs, store)
     note = b"failed %b\n" % boot_id()
-    runs.results.same("a sync fails: its note", (store / "lock").read_bytes(), note)
+    equal(runs, "a sync fails: its note", (store / "lock").read_bytes(), note)
     right = held(files_of(store))
     runs.results.check("a sync fails: what is held", committed and committed <= right, str((committed, right)))
     started(runs, "after a sync that failed", store, True, right)
@@ -295,8 +299,8 @@ def not_written_anew(runs, store, kind, note, right):
         status, told = server.status(), server.told()
     is_told = len(told) == 2 and told[0] == ANEW and told[1].endswith(b"Input/output error (os error 5)")
     runs.results.check(f"{kind} fails: its end", status == 2 and is_told, f"{status} {told}")
-    runs.results.same(f"{kind} fails: what is held", held(files_of(store)), right)
-    runs.results.same(f"{kind} fails: its note", (store / "lock").read_bytes(), note)
+    equal(runs, f"{kind} fails: what is held", held(files_of(store)), right)
+    equal(runs, f"{kind} fails: its note", (store / "lock").read_bytes(), note)
     with runs.until_eof(*any_port("lf"), *SOON, store=store) as server:
         runs.holds(f"{kind} has failed", server, *right)
         runs.ends(f"{kind} has failed", server, 0, ANEW)
@@ -313,7 +317,7 @@ def gone_reader(runs):
     read_end, write_end = os.pipe()
     os.close(read_end)
     seen = runs.program.run(["read", str(store)], stdout=write_end)
-    runs.results.same("read, a pipe without a reader", (seen[0], seen[2]), (2, b""))
+    equal(runs, "read, a pipe without a reader", (seen[0], seen[2]), (2, b""))
     seen = runs.program.run(["read", str(store / "none")], stdout=write_end)
     said = seen[0] == 2 and seen[2].startswith(b"not a store: ")
     runs.results.check("read of no store, a pipe without a reader", said, str(seen))
