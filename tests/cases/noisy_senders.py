@@ -18,6 +18,7 @@ import sys
 import tempfile
 import threading
 import time
+from contextlib import suppress
 from datetime import date, timedelta
 from pathlib import Path
 
@@ -31,6 +32,7 @@ from lib.store_format import HEAD, OPEN
 ELSEWHERE = "127.0.0.2"
 SOURCES = [f"127.0.0.{2 + n}" for n in range(8)]  # of the noise
 MANY = 1, 32, 1_024
+FEWER = 256  # in place of those that the limit on descriptors does not let be open
 OF_ONE = 512  # connections of a process that makes noise
 DESCRIPTORS = 64  # that a process has besides
 SECONDS = 1.6  # of the good sender, in each run
@@ -205,12 +207,13 @@ class Journal:
 
 
 def at_pace(send, pace, seconds):
-    """Sends one after the other at a pace; gives when each was sent."""
+    """Sends one after the other at a pace; gives when each was sent. Where nobody takes them any more, they are lost."""
     begun, times = time.monotonic(), []
     for n in range(int(seconds / pace)):
         time.sleep(max(0, begun + n * pace - time.monotonic()))
         times.append(time.monotonic())
-        send(n)
+        with suppress(OSError):
+            send(n)
     return times
 
 
@@ -354,9 +357,10 @@ FEW = [buffer_that_is_larger, socket_without_a_port, silence_while_stopped, plac
 
 
 def may_be_open():
-    """How many connections of noise the limit on descriptors lets the server and the processes have."""
+    """How many connections of noise there are in each run, as far as the limit on descriptors goes."""
     hard = resource.getrlimit(resource.RLIMIT_NOFILE)[1]
-    return [count for count in MANY if hard == resource.RLIM_INFINITY or count + DESCRIPTORS <= hard]
+    most = max(MANY) if hard == resource.RLIM_INFINITY else hard - DESCRIPTORS
+    return [count if count <= most else min(FEWER, most) for count in MANY]
 
 
 def with_descriptors(run):
