@@ -103,13 +103,22 @@ fn conditions<'a>(matches: &ArgMatches<'a>) -> Result<Conditions<'a>, Refusal<'a
     ensures { option_map conditions_asked (result_ok result)
         ≡ conditions_in (rows_of (found_of matches.now)) }
 {
-    let from = optional_instant(matches, &FROM)?;
-    let to = optional_instant(matches, &UNTIL)?;
+    let from = match optional_instant(matches, &FROM) {
+        Ok(from) => from,
+        Err(refusal) => return Err(refusal),
+    };
+    let to = match optional_instant(matches, &UNTIL) {
+        Ok(to) => to,
+        Err(refusal) => return Err(refusal),
+    };
     let severity = asked_severity(matches)?;
     let facility = asked_facility(matches)?;
     let undated = is_given(matches, UNDATED.name);
     let only_undated = is_given(matches, ONLY_UNDATED.name);
-    let times = times_by(from, to, undated, only_undated)?;
+    let times = match times_by(from, to, undated, only_undated) {
+        Ok(times) => times,
+        Err(refusal) => return Err(refusal),
+    };
     Ok(Conditions {
         times,
         severity,
@@ -126,6 +135,8 @@ fn conditions<'a>(matches: &ArgMatches<'a>) -> Result<Conditions<'a>, Refusal<'a
 pub fn read_select_words<'a>(matches: &ArgMatches<'a>) -> Result<Request<'a>, Refusal<'a>>
     ensures { option_map asked_by (result_ok result) ≡ read_select (rows_of (found_of matches.now)) }
 {
-    let conditions = conditions(matches)?;
-    Ok(Request::Select { conditions })
+    match conditions(matches) {
+        Ok(conditions) => Ok(Request::Select { conditions }),
+        Err(refusal) => Err(refusal),
+    }
 }

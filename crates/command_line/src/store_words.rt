@@ -16,8 +16,14 @@ use option_values::{Refusal, is_given, needed, optional_instant};
 fn range<'a>(matches: &ArgMatches<'a>) -> Result<InRange, Refusal<'a>>
     ensures { result_ok result ≡ range_in (rows_of (found_of matches.now)) }
 {
-    let from = optional_instant(matches, &FROM)?;
-    let to = optional_instant(matches, &UNTIL)?;
+    let from = match optional_instant(matches, &FROM) {
+        Ok(from) => from,
+        Err(refusal) => return Err(refusal),
+    };
+    let to = match optional_instant(matches, &UNTIL) {
+        Ok(to) => to,
+        Err(refusal) => return Err(refusal),
+    };
     let undated = is_given(matches, UNDATED.name);
     Ok(InRange { from, to, undated })
 }
@@ -27,8 +33,10 @@ fn read_read_words<'a>(matches: &ArgMatches<'a>) -> Result<Request<'a>, Refusal<
     ensures { option_map asked_by (result_ok result) ≡ read_read (rows_of (found_of matches.now)) }
 {
     let dir = needed(matches, &DIR)?;
-    let range = range(matches)?;
-    Ok(Request::Read { dir, range })
+    match range(matches) {
+        Ok(range) => Ok(Request::Read { dir, range }),
+        Err(refusal) => Err(refusal),
+    }
 }
 
 // The request of `verify`.
