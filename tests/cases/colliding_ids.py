@@ -9,6 +9,7 @@ import random
 import resource
 import subprocess
 
+from lib.quiet import bound
 from lib.reference import ENTRY_MAX, FRAME_MAX, counted
 
 FRONT = b"<34>1 2003-10-11T22:14:15.003Z host app 1 id "
@@ -21,7 +22,7 @@ ROOM = 8192  # places of a table for 4,097 to 16,384 octets
 WINDOW = 135  # ids that have one place
 STREAM = 3_000_000  # octets of a run that is timed
 RUNS = 12  # of a shape; four times as many where the least is still too much, as beside other work
-MOST = 10  # times what an octet of a plain record costs
+MOST = bound(10, 16)  # times what an octet of a plain record costs
 BOTH = 16  # the same where many ids follow those that a table cannot tell apart, and all are sorted
 STACK = 1024 * 1024
 
