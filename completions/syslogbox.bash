@@ -1,20 +1,39 @@
 # Completion of syslogbox in bash.
+# Written by scripts/options.py from the table of options.
 
 # The options of a command.
 _syslogbox_options() {
-    case $1 in
-        archive) echo "--framing --spill --memory --trim --legacy --zone --dialect --help" ;;
-        check) echo "--framing --summary --trim --legacy --zone --dialect --help" ;;
-        show) echo "--framing --json --trim --legacy --zone --dialect --help" ;;
-        convert) echo "--framing --to --trim --legacy --zone --dialect --help" ;;
-        merge | migrate | union | common | minus | diff | verify | compact) echo "--help" ;;
+    case "$1" in
+        show)
+            echo "--framing --trim --legacy --zone --dialect --json --help"
+            ;;
+        check)
+            echo "--framing --trim --legacy --zone --dialect --summary --help"
+            ;;
+        convert)
+            echo "--framing --trim --legacy --zone --dialect --to --help"
+            ;;
+        archive)
+            echo "--framing --trim --legacy --zone --dialect --spill --memory --help"
+            ;;
+        merge | migrate | union | common | minus | diff | verify | compact)
+            echo "--help"
+            ;;
         select)
             echo "--from --to --undated --only-undated --severity --facility --host --app --proc --msgid --id --help"
             ;;
-        digest) echo "--by --help" ;;
-        send) echo "--facility --severity --up-to --framing --host --app --proc --msgid --micros --help" ;;
-        collect) echo "--trim --legacy --zone --dialect --help" ;;
-        read) echo "--from --to --undated --help" ;;
+        digest)
+            echo "--by --help"
+            ;;
+        read)
+            echo "--from --to --undated --help"
+            ;;
+        send)
+            echo "--facility --severity --up-to --framing --host --app --proc --msgid --micros --help"
+            ;;
+        collect)
+            echo "--trim --legacy --zone --dialect --help"
+            ;;
         serve)
             echo "--udp --counted --lf --unix --inherited --connections --per-peer --idle --commit --checkpoint"
             echo "--until-eof --trim --legacy --zone --dialect --help"
@@ -22,48 +41,86 @@ _syslogbox_options() {
     esac
 }
 
-# The values of a command's option; none where any word will do. The status is 1 where it takes no value.
-_syslogbox_values() {
+# What the value of a command's option is; nothing where it takes none.
+_syslogbox_value() {
     case "$1 $2" in
-        "send --framing" | "convert --to") echo "counted lf" ;;
-        *" --by") echo "month day hour" ;;
-        *" --framing") echo "datagram counted lf" ;;
-        *" --facility")
-            echo "kern user mail daemon auth syslog lpr news uucp cron authpriv ftp ntp audit alert clock"
+        "show --framing" | "check --framing" | "convert --framing" | "archive --framing")
+            echo "words datagram counted lf"
+            ;;
+        "show --legacy" | "show --zone" | "check --legacy" | "check --zone" | "convert --legacy" | \
+        "convert --zone" | "archive --legacy" | "archive --zone" | "archive --memory" | "select --from" | \
+        "select --to" | "select --host" | "select --app" | "select --proc" | "select --msgid" | "select --id" | \
+        "read --from" | "read --to" | "send --host" | "send --app" | "send --proc" | "send --msgid" | \
+        "send --micros" | "collect --legacy" | "collect --zone" | "serve --udp" | "serve --counted" | "serve --lf" | \
+        "serve --connections" | "serve --per-peer" | "serve --idle" | "serve --commit" | "serve --checkpoint" | \
+        "serve --legacy" | "serve --zone")
+            echo "text"
+            ;;
+        "show --dialect" | "check --dialect" | "convert --dialect" | "archive --dialect" | "collect --dialect" | \
+        "serve --dialect")
+            echo "words bsd wide"
+            ;;
+        "convert --to" | "send --framing")
+            echo "words counted lf"
+            ;;
+        "archive --spill")
+            echo "folder"
+            ;;
+        "select --severity" | "send --severity" | "send --up-to")
+            echo "words emerg alert crit err warning notice info debug"
+            ;;
+        "select --facility" | "send --facility")
+            echo "words kern user mail daemon auth syslog lpr news uucp cron authpriv ftp ntp audit alert clock"
             echo "local0 local1 local2 local3 local4 local5 local6 local7"
             ;;
-        *" --dialect") echo "bsd wide" ;;
-        *" --inherited") echo "udp counted lf" ;;
-        *" --severity" | *" --up-to") echo "emerg alert crit err warning notice info debug" ;;
-        *" --legacy" | *" --zone" | *" --host" | *" --app" | *" --proc" | *" --msgid" | *" --micros") ;;
-        *" --from" | *" --to" | *" --id" | *" --memory" | *" --udp" | *" --counted" | *" --lf") ;;
-        *" --connections" | *" --per-peer" | *" --idle" | *" --commit" | *" --checkpoint") ;;
-        *) return 1 ;;
+        "digest --by")
+            echo "words month day hour"
+            ;;
+        "serve --unix")
+            echo "file"
+            ;;
+        "serve --inherited")
+            echo "words udp counted lf"
+            ;;
+    esac
+}
+
+# What a command's value by its place is.
+_syslogbox_place() {
+    case "$1 $2" in
+        "merge "* | "migrate "* | "union "* | "common "* | "minus "* | "diff "*)
+            echo "file"
+            ;;
+        "read "* | "verify "* | "compact "* | "serve "*)
+            echo "folder"
+            ;;
+        "collect 1")
+            echo "words udp counted lf"
+            ;;
     esac
 }
 
 _syslogbox() {
-    local command=${COMP_WORDS[1]} word=$2 previous=$3 files="" words
-    local commands="check convert show archive merge union common minus diff select digest migrate send collect"
-    commands="$commands serve read verify compact help"
+    local command=${COMP_WORDS[1]} word=$2 previous=$3 kind="" action="" words=""
+    local commands="show check convert archive merge migrate union common minus diff select digest read verify compact send collect serve help"
     if [ "$COMP_CWORD" -eq 1 ]; then
         words="$commands --help --version"
     elif [ "$command" = help ]; then
         words=$commands
-    elif [ "$previous" = --spill ] || [ "$previous" = --unix ]; then
-        files=-f
-        compopt -o filenames 2> /dev/null
-    elif ! words=$(_syslogbox_values "$command" "$previous"); then
-        words=$(_syslogbox_options "$command")
-        case "$command $COMP_CWORD" in
-            "collect 2") words="$words udp counted lf" ;;
-            merge* | migrate* | union* | common* | minus* | diff* | serve* | read* | verify* | compact*)
-                files=-f
-                compopt -o filenames 2> /dev/null
-                ;;
-        esac
+    else
+        kind=$(_syslogbox_value "$command" "$previous")
+        if [ -z "$kind" ]; then
+            words=$(_syslogbox_options "$command")
+            kind=$(_syslogbox_place "$command" "$((COMP_CWORD - 1))")
+        fi
     fi
-    mapfile -t COMPREPLY < <(compgen $files -W "$words" -- "$word")
+    case $kind in
+        words*) words="$words ${kind#words}" ;;
+        file) action=-f ;;
+        folder) action=-d ;;
+    esac
+    if [ -n "$action" ]; then compopt -o filenames 2> /dev/null; fi
+    mapfile -t COMPREPLY < <(compgen $action -W "$words" -- "$word")
 }
 
 complete -F _syslogbox syslogbox

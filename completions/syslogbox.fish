@@ -1,87 +1,76 @@
 # Completion of syslogbox in fish.
+# Written by scripts/options.py from the table of options.
 
 complete -c syslogbox -f
 complete -c syslogbox -s h -l help -d 'Print help'
-complete -c syslogbox -n __fish_use_subcommand -s V -l version -d 'Print the version'
+complete -c syslogbox -n __fish_use_subcommand -s V -l version -d 'Print version'
 
-complete -c syslogbox -n __fish_use_subcommand -a check -d 'Say for each frame whether it is a record'
-complete -c syslogbox -n __fish_use_subcommand -a convert -d 'Write the canonical octets of each record'
 complete -c syslogbox -n __fish_use_subcommand -a show -d 'Write the fields of each record'
-complete -c syslogbox -n __fish_use_subcommand -a archive -d 'Write the records as an archive'
+complete -c syslogbox -n __fish_use_subcommand -a check -d 'Say for each frame whether it is a record, and if not, where it stops being one'
+complete -c syslogbox -n __fish_use_subcommand -a convert -d 'Write the canonical octets of each record'
+complete -c syslogbox -n __fish_use_subcommand -a archive -d 'Write the records as an archive: each once, in its canonical form, in one order'
 complete -c syslogbox -n __fish_use_subcommand -a merge -d 'Write the archive of the records of two archives'
-complete -c syslogbox -n __fish_use_subcommand -a union -d 'Write the archive of the records of several archives'
-complete -c syslogbox -n __fish_use_subcommand -a common -d 'Write the archive of the records that both archives have'
-complete -c syslogbox -n __fish_use_subcommand -a minus -d 'Write the archive of the records that only the first archive has'
-complete -c syslogbox -n __fish_use_subcommand -a diff -d 'Write each record that only one of two archives has'
-complete -c syslogbox -n __fish_use_subcommand -a select -d 'Write the archive of the records that meet conditions'
-complete -c syslogbox -n __fish_use_subcommand -a digest -d 'Write count, octets and SHA-256 of each period of an archive'
-complete -c syslogbox -n __fish_use_subcommand -a migrate -d 'Write the archive of an old one'
-complete -c syslogbox -n __fish_use_subcommand -a send -d 'Write one record as a frame'
-complete -c syslogbox -n __fish_use_subcommand -a collect -d 'Receive records and write them as an archive'
-complete -c syslogbox -n __fish_use_subcommand -a serve -d 'Receive records into a store, until it is stopped'
+complete -c syslogbox -n __fish_use_subcommand -a migrate -d 'Write the archive of the records of an old one, whose elements are in the order in which they came'
+complete -c syslogbox -n __fish_use_subcommand -a union -d 'Write the archive of the records of one or more archives'
+complete -c syslogbox -n __fish_use_subcommand -a common -d 'Write the archive of the records that two archives both have'
+complete -c syslogbox -n __fish_use_subcommand -a minus -d 'Write the archive of the records of one archive that another lacks'
+complete -c syslogbox -n __fish_use_subcommand -a diff -d 'Write a line for each record that only one of two archives has'
+complete -c syslogbox -n __fish_use_subcommand -a select -d 'Write the archive of the records of an archive that meet all conditions'
+complete -c syslogbox -n __fish_use_subcommand -a digest -d 'Write a line for each period of an archive: its records, octets and SHA-256'
 complete -c syslogbox -n __fish_use_subcommand -a read -d 'Write the archive of the records that a store holds'
-complete -c syslogbox -n __fish_use_subcommand -a verify -d 'Write a line for each file of a store that is damaged'
+complete -c syslogbox -n __fish_use_subcommand -a verify -d 'Read a whole store and write a line for each damaged file'
 complete -c syslogbox -n __fish_use_subcommand -a compact -d 'Join the segments of each day of a store that has more than eight'
+complete -c syslogbox -n __fish_use_subcommand -a send -d 'Write one record as a frame'
+complete -c syslogbox -n __fish_use_subcommand -a collect -d 'Receive records on 127.0.0.1 and write them as an archive'
+complete -c syslogbox -n __fish_use_subcommand -a serve -d 'Receive records from sockets into a store, until it is stopped'
 complete -c syslogbox -n __fish_use_subcommand -a help -d 'Print the help of a command'
 
-set -l reading check convert show archive
-set -l dated $reading collect serve
-set -l joining merge union common minus diff
-set -l stores serve read verify compact
-set -l facilities kern user mail daemon auth syslog lpr news uucp cron authpriv ftp ntp audit alert clock \
-    local0 local1 local2 local3 local4 local5 local6 local7
-set -l severities emerg alert crit err warning notice info debug
-
-complete -c syslogbox -n "__fish_seen_subcommand_from $reading" -x -l framing -a 'datagram counted lf' -d 'Framing of the input'
-complete -c syslogbox -n "__fish_seen_subcommand_from convert" -x -l to -a 'counted lf' -d 'Framing of the output'
-complete -c syslogbox -n "__fish_seen_subcommand_from $dated" -l trim -d 'Drop one line end or NUL at the end of each frame'
-complete -c syslogbox -n "__fish_seen_subcommand_from $dated" -x -l legacy -d 'Read legacy packets too, in this year'
-complete -c syslogbox -n "__fish_seen_subcommand_from $dated" -x -l zone -d 'Zone of their times'
-complete -c syslogbox -n "__fish_seen_subcommand_from $dated" -x -l dialect -a 'bsd wide' -d 'How they are spelled'
-complete -c syslogbox -n "__fish_seen_subcommand_from check" -l summary -d 'Say last how many legacy packets there were'
-complete -c syslogbox -n "__fish_seen_subcommand_from show" -l json -d 'Write each record as a line of JSON'
-complete -c syslogbox -n "__fish_seen_subcommand_from archive" -x -l spill -a '(__fish_complete_directories)' -d 'Folder for what does not fit in memory'
-complete -c syslogbox -n "__fish_seen_subcommand_from archive" -x -l memory -d 'MiB of memory for the records'
-complete -c syslogbox -n "__fish_seen_subcommand_from $joining migrate" -F
-complete -c syslogbox -n "__fish_seen_subcommand_from $stores" -a '(__fish_complete_directories)' -d 'Folder of a store'
-complete -c syslogbox -n "__fish_seen_subcommand_from collect" -a 'udp counted lf' -d 'How records come'
-complete -c syslogbox -n "__fish_seen_subcommand_from help" -a "$reading $joining select digest migrate send collect $stores"
-
-complete -c syslogbox -n "__fish_seen_subcommand_from send" -x -l facility -a "$facilities" -d Facility
-complete -c syslogbox -n "__fish_seen_subcommand_from send" -x -l severity -a "$severities" -d Severity
-complete -c syslogbox -n "__fish_seen_subcommand_from send" -x -l up-to -a "$severities" -d 'Least severe severity that is sent'
-complete -c syslogbox -n "__fish_seen_subcommand_from send" -x -l framing -a 'counted lf' -d 'Framing of the output'
-complete -c syslogbox -n "__fish_seen_subcommand_from send" -x -l host -d HOSTNAME
-complete -c syslogbox -n "__fish_seen_subcommand_from send" -x -l app -d APP-NAME
-complete -c syslogbox -n "__fish_seen_subcommand_from send" -x -l proc -d PROCID
-complete -c syslogbox -n "__fish_seen_subcommand_from send" -x -l msgid -d MSGID
-complete -c syslogbox -n "__fish_seen_subcommand_from send" -x -l micros -d 'Microseconds from 1970-01-01T00:00:00Z'
-
-complete -c syslogbox -n "__fish_seen_subcommand_from select" -x -l from -d 'The first instant'
-complete -c syslogbox -n "__fish_seen_subcommand_from select" -x -l to -d 'The first instant behind'
-complete -c syslogbox -n "__fish_seen_subcommand_from select" -l undated -d 'Records without a time, too'
+complete -c syslogbox -n "__fish_seen_subcommand_from show check convert archive" -l framing -x -a 'datagram counted lf' -d 'Framing of the input'
+complete -c syslogbox -n "__fish_seen_subcommand_from show check convert archive collect serve" -l trim -d 'Drop CR LF, LF, CR or NUL from the end of each frame, once'
+complete -c syslogbox -n "__fish_seen_subcommand_from show check convert archive collect serve" -l legacy -x -d 'Also read legacy packets'
+complete -c syslogbox -n "__fish_seen_subcommand_from show check convert archive collect serve" -l zone -x -d 'Offset of their times from UTC'
+complete -c syslogbox -n "__fish_seen_subcommand_from show check convert archive collect serve" -l dialect -x -a 'bsd wide' -d 'Dialect of legacy packets'
+complete -c syslogbox -n "__fish_seen_subcommand_from show" -l json -d 'Write each record as one line of JSON'
+complete -c syslogbox -n "__fish_seen_subcommand_from check" -l summary -d 'At the end, print how many packets were legacy, and how many of these had no time or no host'
+complete -c syslogbox -n "__fish_seen_subcommand_from convert" -l to -x -a 'counted lf' -d 'Framing of the output'
+complete -c syslogbox -n "__fish_seen_subcommand_from archive" -l spill -x -a '(__fish_complete_directories)' -d 'Folder for what does not fit in memory'
+complete -c syslogbox -n "__fish_seen_subcommand_from archive" -l memory -x -d 'MiB of memory for the records, with --spill'
+complete -c syslogbox -n "__fish_seen_subcommand_from merge common minus diff" -F
+complete -c syslogbox -n "__fish_seen_subcommand_from migrate" -F
+complete -c syslogbox -n "__fish_seen_subcommand_from union" -F
+complete -c syslogbox -n "__fish_seen_subcommand_from select read" -l from -x -d 'Records at or after this time of RFC 5424'
+complete -c syslogbox -n "__fish_seen_subcommand_from select read" -l to -x -d 'Records before this time'
+complete -c syslogbox -n "__fish_seen_subcommand_from select read" -l undated -d 'Also records without a time, which --from and --to leave out'
 complete -c syslogbox -n "__fish_seen_subcommand_from select" -l only-undated -d 'Only records without a time'
-complete -c syslogbox -n "__fish_seen_subcommand_from select" -x -l severity -a "$severities" -d 'This severity or a more severe one'
-complete -c syslogbox -n "__fish_seen_subcommand_from select" -x -l facility -a "$facilities" -d Facility
-complete -c syslogbox -n "__fish_seen_subcommand_from select" -x -l host -d HOSTNAME
-complete -c syslogbox -n "__fish_seen_subcommand_from select" -x -l app -d APP-NAME
-complete -c syslogbox -n "__fish_seen_subcommand_from select" -x -l proc -d PROCID
-complete -c syslogbox -n "__fish_seen_subcommand_from select" -x -l msgid -d MSGID
-complete -c syslogbox -n "__fish_seen_subcommand_from select" -x -l id -d 'Id of an element'
-complete -c syslogbox -n "__fish_seen_subcommand_from digest" -x -l by -a 'month day hour' -d 'The periods'
-
-complete -c syslogbox -n "__fish_seen_subcommand_from read" -x -l from -d 'The first instant'
-complete -c syslogbox -n "__fish_seen_subcommand_from read" -x -l to -d 'The first instant behind'
-complete -c syslogbox -n "__fish_seen_subcommand_from read" -l undated -d 'Records without a time, too'
-
-complete -c syslogbox -n "__fish_seen_subcommand_from serve" -x -l udp -d 'Receive datagrams on ADDR:PORT'
-complete -c syslogbox -n "__fish_seen_subcommand_from serve" -x -l counted -d 'Accept connections on ADDR:PORT whose frames are counted'
-complete -c syslogbox -n "__fish_seen_subcommand_from serve" -x -l lf -d 'Accept connections on ADDR:PORT whose frames are lines'
-complete -c syslogbox -n "__fish_seen_subcommand_from serve" -r -F -l unix -d 'Receive datagrams on a socket at this path'
-complete -c syslogbox -n "__fish_seen_subcommand_from serve" -x -l inherited -a 'udp counted lf' -d 'Take the next descriptor, from 3 on'
-complete -c syslogbox -n "__fish_seen_subcommand_from serve" -x -l connections -d 'Connections that may be open at once'
-complete -c syslogbox -n "__fish_seen_subcommand_from serve" -x -l per-peer -d 'Connections of one address that may be open at once'
-complete -c syslogbox -n "__fish_seen_subcommand_from serve" -x -l idle -d 'Seconds without an octet before a connection is closed'
-complete -c syslogbox -n "__fish_seen_subcommand_from serve" -x -l commit -d 'Milliseconds before a record is committed at the latest'
-complete -c syslogbox -n "__fish_seen_subcommand_from serve" -x -l checkpoint -d 'MiB of a journal before a checkpoint'
+complete -c syslogbox -n "__fish_seen_subcommand_from select" -l severity -x -a 'emerg alert crit err warning notice info debug' -d 'Records of this severity or a more severe one'
+complete -c syslogbox -n "__fish_seen_subcommand_from select" -l facility -x -a 'kern user mail daemon auth syslog lpr news uucp cron authpriv ftp ntp audit alert clock local0 local1 local2 local3 local4 local5 local6 local7' -d 'Records of this facility'
+complete -c syslogbox -n "__fish_seen_subcommand_from select" -l host -x -d 'Records with this HOSTNAME'
+complete -c syslogbox -n "__fish_seen_subcommand_from select" -l app -x -d 'Records with this APP-NAME'
+complete -c syslogbox -n "__fish_seen_subcommand_from select" -l proc -x -d 'Records with this PROCID'
+complete -c syslogbox -n "__fish_seen_subcommand_from select" -l msgid -x -d 'Records with this MSGID'
+complete -c syslogbox -n "__fish_seen_subcommand_from select" -l id -x -d 'Records that have an element with this SD-ID'
+complete -c syslogbox -n "__fish_seen_subcommand_from digest" -l by -x -a 'month day hour' -d 'Length of the periods'
+complete -c syslogbox -n "__fish_seen_subcommand_from read verify compact" -a '(__fish_complete_directories)'
+complete -c syslogbox -n "__fish_seen_subcommand_from send" -l facility -x -a 'kern user mail daemon auth syslog lpr news uucp cron authpriv ftp ntp audit alert clock local0 local1 local2 local3 local4 local5 local6 local7' -d 'Facility'
+complete -c syslogbox -n "__fish_seen_subcommand_from send" -l severity -x -a 'emerg alert crit err warning notice info debug' -d 'Severity'
+complete -c syslogbox -n "__fish_seen_subcommand_from send" -l up-to -x -a 'emerg alert crit err warning notice info debug' -d 'Least severe severity that is sent'
+complete -c syslogbox -n "__fish_seen_subcommand_from send" -l framing -x -a 'counted lf' -d 'Framing of the output'
+complete -c syslogbox -n "__fish_seen_subcommand_from send" -l host -x -d 'HOSTNAME'
+complete -c syslogbox -n "__fish_seen_subcommand_from send" -l app -x -d 'APP-NAME'
+complete -c syslogbox -n "__fish_seen_subcommand_from send" -l proc -x -d 'PROCID'
+complete -c syslogbox -n "__fish_seen_subcommand_from send" -l msgid -x -d 'MSGID'
+complete -c syslogbox -n "__fish_seen_subcommand_from send" -l micros -x -d 'Time'
+complete -c syslogbox -n "__fish_seen_subcommand_from collect" -a 'udp counted lf'
+complete -c syslogbox -n "__fish_seen_subcommand_from serve" -a '(__fish_complete_directories)'
+complete -c syslogbox -n "__fish_seen_subcommand_from serve" -l udp -x -d 'Receive datagrams on ADDR:PORT'
+complete -c syslogbox -n "__fish_seen_subcommand_from serve" -l counted -x -d 'Accept connections on ADDR:PORT whose frames are counted'
+complete -c syslogbox -n "__fish_seen_subcommand_from serve" -l lf -x -d 'Accept connections on ADDR:PORT whose frames are lines'
+complete -c syslogbox -n "__fish_seen_subcommand_from serve" -l unix -r -F -d 'Receive datagrams on a socket at this path'
+complete -c syslogbox -n "__fish_seen_subcommand_from serve" -l inherited -x -a 'udp counted lf' -d 'Use the next inherited descriptor, from 3 on, as a socket of this kind'
+complete -c syslogbox -n "__fish_seen_subcommand_from serve" -l connections -x -d 'Connections that may be open at once'
+complete -c syslogbox -n "__fish_seen_subcommand_from serve" -l per-peer -x -d 'Connections that one address may have open at once'
+complete -c syslogbox -n "__fish_seen_subcommand_from serve" -l idle -x -d 'Seconds without an octet after which a connection is closed'
+complete -c syslogbox -n "__fish_seen_subcommand_from serve" -l commit -x -d 'Milliseconds within which a record is committed'
+complete -c syslogbox -n "__fish_seen_subcommand_from serve" -l checkpoint -x -d 'MiB that a journal may reach before a checkpoint'
 complete -c syslogbox -n "__fish_seen_subcommand_from serve" -l until-eof -d 'End when standard input ends'
+complete -c syslogbox -n "__fish_seen_subcommand_from help" -a "show check convert archive merge migrate union common minus diff select digest read verify compact send collect serve"

@@ -1,5 +1,6 @@
 """Tables of what the program is given and what it must write."""
 from lib import reference
+from lib.loopback import HERE
 from lib.reference import MARK
 
 HELLO = b"<165>1 - - - - - - hello"
@@ -100,6 +101,17 @@ TAKES = {
     "--idle": "a number from 1 to 31536000", "--commit": "a number from 0 to 3600000",
     "--checkpoint": "a number from 1 to 2048",
 }
+# values that options of serve do not take
+REFUSED_OF_SERVE = {
+    "--udp": [HERE, "localhost:514", "127.1:514", ":514", "127.0.0.1:-1"],
+    "--counted": [f"{HERE}:65536", f"{HERE}:", "::1:514"], "--lf": ["[::1]", "", "[::1:514"],
+    "--inherited": ["unix", "", "UDP"],
+    "--connections": ["0", "16385", "", "x", "+1", "1.5", "18446744073709551617"], "--idle": ["0", "31536001", "never"],
+    "--commit": ["3600001", "1s"], "--checkpoint": ["0", "2049", "64M"],
+    "--per-peer": ["0", "16385"], "--legacy": ["0", "9999"],
+    "--zone": ["E2400", "0000"], "--dialect": ["rfc3164", ""],
+}
+
 TIME = "a time of RFC 5424 in the years 0 to 9999 of UTC, such as 2026-11-25T10:00:00Z"
 
 

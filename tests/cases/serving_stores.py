@@ -6,7 +6,7 @@ import socket
 import subprocess
 import threading
 
-from cases.rows import A, invalid
+from cases.rows import A, REFUSED_OF_SERVE, invalid
 from lib.loopback import HERE, kind_of
 from lib.reference import counted, framed
 from lib.server import SOON, any_port, numbered, spelled, until
@@ -296,17 +296,6 @@ def folders(runs):
                           (2, b"", b"not a store: it has neither a journal nor a segment\n"))
 
 
-# values that an option does not take
-VALUES = {
-    "--udp": [HERE, "localhost:514", "127.1:514", ":514", "127.0.0.1:-1"],
-    "--counted": [f"{HERE}:65536", f"{HERE}:", "::1:514"], "--lf": ["[::1]", "", "[::1:514"],
-    "--inherited": ["unix", "", "UDP"],
-    "--connections": ["0", "16385", "", "x", "+1", "1.5", "18446744073709551617"], "--idle": ["0", "31536001", "never"],
-    "--commit": ["3600001", "1s"], "--checkpoint": ["0", "2049", "64M"],
-    "--per-peer": ["0", "16385"], "--legacy": ["0", "9999"],
-    "--zone": ["E2400", "0000"], "--dialect": ["rfc3164", ""],
-}
-
 # other words that are wrong
 WORDS = [[], ["--lf"], [*ALL, "--until-eof=1"], [*ALL, "--idle", "1", "--idle", "2"], [*ALL, "other"],
          [*ALL, "--threads", "2"]]
@@ -314,7 +303,7 @@ WORDS = [[], ["--lf"], [*ALL, "--until-eof=1"], [*ALL, "--idle", "1", "--idle", 
 
 def options(runs):
     """Words that are wrong are told, and nothing is begun."""
-    values = [([*ALL, option, value], invalid(option, value)) for option, values in VALUES.items() for value in values]
+    values = [([*ALL, option, value], invalid(option, value)) for option, values in REFUSED_OF_SERVE.items() for value in values]
     for words, line in [*values, *((words, b"error: ") for words in WORDS)]:
         store = runs.store()
         status, output, notes = runs.program.run(["serve", str(store), *words])

@@ -6,7 +6,7 @@ use Rattle.std.specs.Str.{bytes_eq}
 use Rattle.clap.specs.Walk.{Text, Row}
 use Rattle.clap.specs.Values.{kind_of}
 use Rattle.clap.specs.Kinds.{Kinds, HasKind}
-use Rattle.clap.specs.Simple.{App, HasMatchesOf, is_simple, subcommand_of, subcommand_rows_of, with_subcommand}
+use Rattle.clap.specs.Simple.{App, HasMatchesOf, is_simple, subcommand_of, subcommand_rows_of}
 use Rattle.clap.specs.Faults.{fault_of, is_simple_and_free}
 use Rattle.clap.specs.declared.error.Error.{Error}
 use Rattle.clap.specs.declared.error.kind.ErrorKind.TheVariants.{OutOfMemory}
@@ -16,14 +16,6 @@ use Rattle.collect_engine.specs.declared.collect_words.CollectWords.{CollectWord
 use Rattle.command_line.specs.CommandLine.{line_app}
 use Rattle.command_line.specs.Requests.{Asked, Collect, collect_asked, collect_by, or_fault, parsed, read_collect}
 use Rattle.command_line.specs.Requests.{read_of, rows_asked, rows_where}
-
--- three more commands, by their equals
-pub three_commands : (line one two three a b c x y z : App) → one ≡ with_subcommand line a.top
-    → two ≡ with_subcommand one b.top → three ≡ with_subcommand two c.top → a ≡ x → b ≡ y → c ≡ z
-    → three ≡ with_subcommand (with_subcommand (with_subcommand line x.top) y.top) z.top
-three_commands line one two three a b c x y z e f g h k l =
-    let add : App → App → App = λ p q. with_subcommand p q.top in
-    g ∙ ap₂ add (f ∙ ap₂ add (e ∙ ap (add line) h) k) l
 
 line_is_simple : is_simple line_app ≡ true
 unfolding clap_on_literals

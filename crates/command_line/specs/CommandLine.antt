@@ -24,9 +24,9 @@ list_rule id = record (option_rule id) { action = Some Append }
 abbrev pub required_rule : Text → Rule
 required_rule id = record (new_rule id) { required = true }
 
--- the files that are joined: one at least, and 512 at most
-abbrev pub files_rule : Rule
-files_rule = record (required_rule (codes "FILE")) {
+-- values that have to be given, by their places: one at least, and 512 at most
+abbrev pub several_rule : Text → Rule
+several_rule id = record (required_rule id) {
   range = Some (record { start_inclusive = 1; end_inclusive = 512 });
 }
 
@@ -73,7 +73,7 @@ migrate_app = with_rule (new_app (codes "migrate")) (required_rule (codes "FILE"
 
 -- the command that joins archives
 abbrev pub union_app : App
-union_app = with_rule (new_app (codes "union")) files_rule
+union_app = with_rule (new_app (codes "union")) (several_rule (codes "FILE"))
 
 -- the options for a range of time
 abbrev pub with_range_rules : App → App

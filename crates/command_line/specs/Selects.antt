@@ -62,13 +62,6 @@ times_by (Some from) to undated true = None
 times_by None (Some to) undated true = None
 times_by from to undated false = Some (Range (record { from = from; to = to; undated = undated }))
 
--- the values of the options of times
-abbrev pub times_in : List Row → Option Times
-times_in rows =
-    option_and_then (λ from. option_and_then (λ to.
-    times_by from to (is_given_in (codes "undated") rows) (is_given_in (codes "only-undated") rows))
-    (optional time_in (first_of (codes "to") rows))) (optional time_in (first_of (codes "from") rows))
-
 -- the values of the options of a range of time
 abbrev pub range_in : List Row → Option InRange
 range_in rows =
@@ -81,7 +74,8 @@ range_in rows =
 -- the values of the options of `select`
 abbrev pub conditions_in : List Row → Option ConditionsAsked
 conditions_in rows =
-    option_and_then (λ times. option_and_then (λ severity. option_map (λ facility. record {
+    option_and_then (λ from. option_and_then (λ to. option_and_then (λ severity. option_and_then (λ facility.
+    option_map (λ times. record {
       times = times;
       severity = severity;
       facility = facility;
@@ -90,5 +84,7 @@ conditions_in rows =
       proc_id = word_by (first_of (codes "proc") rows);
       msg_id = word_by (first_of (codes "msgid") rows);
       id = first_of (codes "id") rows;
-    }) (optional facility_of (first_of (codes "facility") rows)))
-    (optional severity_of (first_of (codes "severity") rows))) (times_in rows)
+    }) (times_by from to (is_given_in (codes "undated") rows) (is_given_in (codes "only-undated") rows)))
+    (optional facility_of (first_of (codes "facility") rows)))
+    (optional severity_of (first_of (codes "severity") rows)))
+    (optional time_in (first_of (codes "to") rows))) (optional time_in (first_of (codes "from") rows))

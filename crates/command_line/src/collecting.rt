@@ -1,42 +1,24 @@
 //! The words of `collect`.
 
-ghost use Rattle.std.specs.Prelude.{◌≡◌, ◌⊎◌, false, map, option_and_then, IfErr, IfOk, IfSome, Err, None, Ok, Some};
-ghost use Rattle.clap.specs.Words.{app_of, found_of, rows_of, subcommand_rows_of};
-ghost use Rattle.clap.specs.declared.builder.command.Command.TheViews.{out-Command as fields_of};
-ghost use Rattle.command_line.specs.CommandLine.{collect_app};
+ghost use Rattle.std.specs.Prelude.{◌≡◌, ◌⊎◌, codes, map, option_and_then, IfErr, IfOk, IfSome, Err, None, Ok, Some};
+ghost use Rattle.std.specs.Result.{result_ok};
+ghost use Rattle.clap.specs.Walk.{first_of};
+ghost use Rattle.clap.specs.Words.{found_of, rows_of, subcommand_rows_of};
 ghost use Rattle.command_line.specs.Requests.{Collect, asked_by, collect_asked, collect_by, count_max, parsed};
 ghost use Rattle.command_line.specs.Requests.{read_collect, transport_of};
 
-use crate::reading_words::with_reading;
-use crate::words::{command, positional, whole_line, with_arg};
+use crate::line::whole_line;
+use clap::ArgMatches;
 use clap::error::ErrorKind;
-use clap::{ArgMatches, Command};
 use collect_engine::{CollectWords, Transport};
 use driver::{FAULT, NO_MEMORY};
-use option_values::{number, reading_of_matches, value};
-use std::alloc::{AllocError, Global};
+use option_values::options::{COUNT, PORT, TRANSPORT};
+use option_values::{Kind, Refusal, needed, number, number_within, reading_of_matches};
+use std::alloc::Global;
 use std::convert::AsStr;
 
-/// The command that receives records from sockets. It fails only when out of memory.
-pub fn collect_command<'a>(alloc: Global) -> Result<Command<'a>, AllocError>
-    ensures app { IfOk result (λ c. app_of c ≡ collect_app) }
-    ensures local { IfOk result (λ c. (fields_of c).has_globals ≡ false) }
-{
-    let collect = command(
-        alloc,
-        "collect",
-        "Receive records on 127.0.0.1 and write them as an archive",
-    );
-    let help = "udp, or counted or lf (both over TCP)";
-    let collect = with_arg(collect, positional(alloc, "TRANSPORT", help))?;
-    let collect = with_arg(collect, positional(alloc, "PORT", "Port: 1 to 65535"))?;
-    let help = "Number of datagrams (1 to 1000000) or connections (1 to 100000) to receive";
-    let collect = with_arg(collect, positional(alloc, "COUNT", help))?;
-    with_reading(alloc, collect)
-}
-
-/// The transport with this name; None for any other text.
-pub fn transport(name: &str) -> Option<Transport>
+// The transport with this name; None for any other text.
+fn transport(name: &str) -> Option<Transport>
     ensures { result ≡ transport_of name.now }
 {
     match name {
@@ -47,8 +29,8 @@ pub fn transport(name: &str) -> Option<Transport>
     }
 }
 
-/// How many datagrams or connections may be asked for at most.
-pub fn count_max(transport: Transport) -> u32
+// How many datagrams or connections may be asked for at most.
+fn count_max(transport: Transport) -> u32
     ensures { result ≡ count_max transport }
 {
     match transport {
@@ -57,15 +39,27 @@ pub fn count_max(transport: Transport) -> u32
     }
 }
 
-/// The arguments of `collect`; None if a value is refused.
-pub fn read_collect_words(matches: &ArgMatches<'_>) -> Option<CollectWords>
-    ensures { result ≡ read_collect (rows_of (found_of matches.now)) }
+// The transport by its place.
+fn transport_of_matches<'a>(matches: &ArgMatches<'a>) -> Result<Transport, Refusal<'a>>
+    ensures { result_ok result
+        ≡ option_and_then transport_of (first_of (codes "TRANSPORT") (rows_of (found_of matches.now))) }
 {
-    let transport = transport(value(matches, "TRANSPORT")?)?;
-    let port = number(value(matches, "PORT")?, 1, 65_535)? as u16;
-    let count = number(value(matches, "COUNT")?, 1, count_max(transport))?;
+    let name = needed(matches, &TRANSPORT)?;
+    match transport(name) {
+        Some(transport) => Ok(transport),
+        None => Err(TRANSPORT.refuses(TRANSPORT.kind, name)),
+    }
+}
+
+/// The arguments of `collect`.
+pub fn read_collect_words<'a>(matches: &ArgMatches<'a>) -> Result<CollectWords, Refusal<'a>>
+    ensures { result_ok result ≡ read_collect (rows_of (found_of matches.now)) }
+{
+    let transport = transport_of_matches(matches)?;
+    let port = number(matches, &PORT)? as u16;
+    let count = number_within(matches, &COUNT, Kind::Number(1, count_max(transport)))?;
     let reading = reading_of_matches(matches)?;
-    Some(CollectWords {
+    Ok(CollectWords {
         transport,
         port,
         count,
@@ -82,8 +76,8 @@ fn collect_of_matches(matches: &ArgMatches<'_>) -> Result<Option<CollectWords>, 
     };
     match name {
         "collect" => match read_collect_words(inner) {
-            Some(words) => Ok(Some(words)),
-            None => Err(FAULT),
+            Ok(words) => Ok(Some(words)),
+            Err(_) => Err(FAULT),
         },
         _ => Ok(None),
     }

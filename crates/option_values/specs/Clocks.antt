@@ -10,6 +10,7 @@ use Rattle.syslog_legacy.specs.declared.clock.Dialect.{Dialect}
 use Rattle.syslog_legacy.specs.declared.clock.Dialect.TheVariants.{Bsd, Wide}
 use Rattle.syslog_legacy.specs.declared.clock.LegacyClock.{LegacyClock}
 use Rattle.option_values.specs.Numbers.{number_in}
+use Rattle.option_values.specs.Values.{optional}
 
 -- two digits of hours and two of minutes, in minutes
 abbrev pub minutes_of : Text → Option ℕ
@@ -41,29 +42,31 @@ clock_at year offset =
       offset_valid = (le_z_yes c, le_z_yes d);
     }
 
--- the clock by the texts of its year and its zone: without a year there is none, and the zone is tested all the same
-abbrev pub clock_of : Option Text → Text → Option Clock
-clock_of None zone = option_map (λ offset. None) (zone_of zone)
-clock_of (Some year) zone =
-    option_and_then (λ offset. option_and_then (λ y. option_map (λ clock. Some clock) (clock_at y offset))
-    (number_in 1 9998 year)) (zone_of zone)
-
 -- the dialect with this name
 abbrev pub dialect_of : Text → Option Dialect
 dialect_of name =
     if bytes_eq name (codes "bsd") then Some Bsd else (if bytes_eq name (codes "wide") then Some Wide else None)
 
--- the clock, if there is one, of packets in a dialect
-abbrev pub in_dialect : Dialect → Clock → Clock
-in_dialect dialect None = None
-in_dialect dialect (Some clock) = Some (record clock { dialect = dialect })
+-- the value of `--legacy`, where it is given
+abbrev pub year_in : List Row → Option (Option ℕ)
+year_in rows = optional (number_in 1 9998) (first_of (codes "legacy") rows)
 
--- the values of `--legacy` and `--zone`
-abbrev pub year_clock_in : List Row → Option Clock
-year_clock_in rows = option_and_then (clock_of (first_of (codes "legacy") rows)) (first_of (codes "zone") rows)
+-- the value of `--zone`
+abbrev pub offset_in : List Row → Option ℤ
+offset_in rows = option_and_then zone_of (first_of (codes "zone") rows)
+
+-- the value of `--dialect`
+abbrev pub dialect_in : List Row → Option Dialect
+dialect_in rows = option_and_then dialect_of (first_of (codes "dialect") rows)
+
+-- the clock of a year, an offset and a dialect: without a year there is none
+abbrev pub clock_by : Option ℕ → ℤ → Dialect → Option Clock
+clock_by None offset dialect = Some None
+clock_by (Some year) offset dialect =
+    option_map (λ clock. Some (record clock { dialect = dialect })) (clock_at year offset)
 
 -- the values of `--legacy`, `--zone` and `--dialect`: without a year the others are tested all the same
 abbrev pub clock_in : List Row → Option Clock
 clock_in rows =
-    option_and_then (λ dialect. option_map (in_dialect dialect) (year_clock_in rows))
-    (option_and_then dialect_of (first_of (codes "dialect") rows))
+    option_and_then (λ year. option_and_then (λ offset. option_and_then (clock_by year offset) (dialect_in rows))
+    (offset_in rows)) (year_in rows)

@@ -3,6 +3,8 @@ use Rattle.std.specs.Prelude.{ℕ, Bool, Option, Some, None, ◌&&◌, not, nat_
 use Rattle.std.specs.Str.{all_ascii_digits}
 use Rattle.std.specs.Str.Parse.{digits_value}
 use Rattle.clap.specs.Walk.{Text}
+use Rattle.option_values.specs.declared.option_row.Kind.{Kind}
+use Rattle.option_values.specs.declared.option_row.Kind.TheVariants as kind
 
 -- decimal digits alone, and at least one
 abbrev pub is_numeral : Text → Bool
@@ -13,3 +15,9 @@ abbrev pub number_in : ℕ → ℕ → Text → Option ℕ
 number_in first last text =
     let n = digits_value 10 text in
     if is_numeral text && (nat_le first n && nat_le n last) then Some n else None
+
+-- the number that the text writes, in the range of a kind
+abbrev pub number_by : Kind → Text → Option ℕ
+number_by (kind.Number first last) text = number_in first last text
+number_by (kind.Year first last) text = number_in first last text
+number_by _ text = None

@@ -1,12 +1,15 @@
 //! The values of `--legacy`, `--zone` and `--dialect`.
 
-ghost use Rattle.std.specs.Prelude.{◌≡◌, codes, option_map};
+ghost use Rattle.std.specs.Prelude.{◌≡◌, ◌≤◌, IfSome};
+ghost use Rattle.std.specs.Result.{result_ok};
 ghost use Rattle.clap.specs.Words.{found_of, rows_of};
-ghost use Rattle.option_values.specs.Clocks.{clock_at, clock_in, clock_of, dialect_of, in_dialect, minutes_of};
-ghost use Rattle.option_values.specs.Clocks.{year_clock_in, zone_of};
+ghost use Rattle.option_values.specs.Clocks.{clock_at, clock_by, clock_in, dialect_in, dialect_of, minutes_of};
+ghost use Rattle.option_values.specs.Clocks.{offset_in, zone_of};
 
-use crate::given::value;
-use crate::numbers::{number, two_digits};
+use crate::given::needed;
+use crate::numbers::{optional_number, two_digits};
+use crate::option_row::Refusal;
+use crate::options::{DIALECT, LEGACY, ZONE};
 use clap::ArgMatches;
 use syslog_legacy::{Dialect, LegacyClock};
 
@@ -22,9 +25,9 @@ fn minutes(digits: &[u8]) -> Option<u16>
     Some(u16::from(hours) * 60 + u16::from(minutes))
 }
 
-/// How many minutes a zone is ahead of UTC: E is ahead, W is behind, as in `E0130`. None if the text
-/// is no zone.
-pub fn zone(text: &str) -> Option<i16>
+// How many minutes a zone is ahead of UTC: E is ahead, W is behind, as in `E0130`. None if the text
+// is no zone.
+fn zone(text: &str) -> Option<i16>
     ensures { result ≡ zone_of text.now }
 {
     match text.as_bytes() {
@@ -41,28 +44,31 @@ fn clock_at(year: u16, offset_minutes: i16) -> Option<LegacyClock>
     LegacyClock::new(year, offset_minutes)
 }
 
-// The clock of a year in a zone. Without a year there is none; the zone is tested all the same.
-fn clock(year: Option<&str>, zone_text: &str) -> Option<Option<LegacyClock>>
-    ensures { result ≡ clock_of (option_map (λ s. s.now) year.entry) zone_text.now }
+// The clock of a year, an offset and a dialect, where they are in range. Without a year there is none.
+fn clock_by(year: Option<u32>, offset_minutes: i16, dialect: Dialect) -> Option<Option<LegacyClock>>
+    requires { IfSome year (λ y. y ≤ 9998) }
+    ensures { result ≡ clock_by year offset_minutes dialect }
 {
-    let offset_minutes = zone(zone_text)?;
     let Some(year) = year else {
         return Some(None);
     };
-    let year = number(year, 1, 9998)? as u16;
-    Some(Some(clock_at(year, offset_minutes)?))
+    let clock = clock_at(year as u16, offset_minutes)?;
+    Some(Some(clock.with_dialect(dialect)))
 }
 
-// The clock by `--legacy` and `--zone`.
-fn year_clock(matches: &ArgMatches<'_>) -> Option<Option<LegacyClock>>
-    ensures { result ≡ year_clock_in (rows_of (found_of matches.now)) }
+// The offset by `--zone`.
+fn offset_of_matches<'a>(matches: &ArgMatches<'a>) -> Result<i16, Refusal<'a>>
+    ensures { result_ok result ≡ offset_in (rows_of (found_of matches.now)) }
 {
-    let zone = value(matches, "zone")?;
-    clock(value(matches, "legacy"), zone)
+    let text = needed(matches, &ZONE)?;
+    match zone(text) {
+        Some(offset) => Ok(offset),
+        None => Err(ZONE.refuses(ZONE.kind, text)),
+    }
 }
 
-/// The dialect with this name, `bsd` or `wide`; None for any other text.
-pub fn dialect(name: &str) -> Option<Dialect>
+// The dialect with this name, `bsd` or `wide`; None for any other text.
+fn dialect(name: &str) -> Option<Dialect>
     ensures { result ≡ dialect_of name.now }
 {
     match name {
@@ -72,22 +78,27 @@ pub fn dialect(name: &str) -> Option<Dialect>
     }
 }
 
-// The clock, if there is one, of packets in a dialect.
-fn in_dialect(clock: Option<LegacyClock>, dialect: Dialect) -> Option<LegacyClock>
-    ensures { result ≡ in_dialect dialect clock }
+// The dialect by `--dialect`.
+fn dialect_of_matches<'a>(matches: &ArgMatches<'a>) -> Result<Dialect, Refusal<'a>>
+    ensures { result_ok result ≡ dialect_in (rows_of (found_of matches.now)) }
 {
-    match clock {
-        None => None,
-        Some(clock) => Some(clock.with_dialect(dialect)),
+    let name = needed(matches, &DIALECT)?;
+    match dialect(name) {
+        Some(dialect) => Ok(dialect),
+        None => Err(DIALECT.refuses(DIALECT.kind, name)),
     }
 }
 
-/// The clock of legacy packets that the options ask for, if these are read at all; None if a value
-/// of these options is refused.
-pub fn clock_of_matches(matches: &ArgMatches<'_>) -> Option<Option<LegacyClock>>
-    ensures { result ≡ clock_in (rows_of (found_of matches.now)) }
+/// The clock of legacy packets that the options ask for, if these are read at all. Without a year the
+/// zone and the dialect are tested all the same.
+pub fn clock_of_matches<'a>(matches: &ArgMatches<'a>) -> Result<Option<LegacyClock>, Refusal<'a>>
+    ensures { result_ok result ≡ clock_in (rows_of (found_of matches.now)) }
 {
-    let dialect = dialect(value(matches, "dialect")?)?;
-    let clock = year_clock(matches)?;
-    Some(in_dialect(clock, dialect))
+    let year = optional_number(matches, &LEGACY)?;
+    let offset = offset_of_matches(matches)?;
+    let dialect = dialect_of_matches(matches)?;
+    match clock_by(year, offset, dialect) {
+        Some(clock) => Ok(clock),
+        None => Err(Refusal::Missing),
+    }
 }

@@ -1,17 +1,19 @@
 //! Numbers in words: decimal digits alone.
 
-ghost use Rattle.std.specs.Prelude.{◌≡◌, [], ◌∷◌};
+ghost use Rattle.std.specs.Prelude.{◌≡◌, [], ◌∷◌, option_and_then};
+ghost use Rattle.std.specs.Result.{result_ok};
 ghost use Rattle.clap.specs.Walk.{first_of};
 ghost use Rattle.clap.specs.Words.{found_of, rows_of};
-ghost use Rattle.option_values.specs.Numbers.{number_in};
+ghost use Rattle.option_values.specs.Numbers.{number_by, number_in};
 ghost use Rattle.option_values.specs.Values.{optional};
 
-use crate::given::value;
+use crate::given::{needed, value};
+use crate::option_row::{Kind, OptionRow, Refusal};
 use clap::ArgMatches;
 
 /// The number from `first` to `last` that the text spells in decimal digits alone; leading zeros
 /// are accepted. None if it spells none.
-pub fn number(text: &str, first: u32, last: u32) -> Option<u32>
+pub(crate) fn number_from(text: &str, first: u32, last: u32) -> Option<u32>
     ensures { result ≡ number_in first last text.now }
 {
     if text.starts_with('+') {
@@ -23,20 +25,55 @@ pub fn number(text: &str, first: u32, last: u32) -> Option<u32>
     }
 }
 
-/// The number from `first` to `last` that the value of an option is, if it is given; None if the
-/// value is refused.
-pub fn optional_number(
-    matches: &ArgMatches<'_>,
-    id: &str,
-    first: u32,
-    last: u32,
-) -> Option<Option<u32>>
-    ensures { result ≡ optional (number_in first last) (first_of id.now (rows_of (found_of matches.now))) }
+// The number that the text spells, in the range of a kind; None for a kind that is no number.
+fn number_by(kind: Kind, text: &str) -> Option<u32>
+    ensures { result ≡ number_by kind text.now }
 {
-    let Some(text) = value(matches, id) else {
-        return Some(None);
+    match kind {
+        Kind::Number(first, last) | Kind::Year(first, last) => number_from(text, first, last),
+        _ => None,
+    }
+}
+
+/// The number that the value of an option is, in the range of a kind.
+pub fn number_within<'a>(
+    matches: &ArgMatches<'a>,
+    option: &OptionRow,
+    kind: Kind,
+) -> Result<u32, Refusal<'a>>
+    ensures { result_ok result
+        ≡ option_and_then (number_by kind) (first_of option.now.name.now (rows_of (found_of matches.now))) }
+{
+    let text = needed(matches, option)?;
+    match number_by(kind, text) {
+        Some(number) => Ok(number),
+        None => Err(option.refuses(kind, text)),
+    }
+}
+
+/// The number that the value of an option is, in the range of its row.
+pub fn number<'a>(matches: &ArgMatches<'a>, option: &OptionRow) -> Result<u32, Refusal<'a>>
+    ensures { result_ok result ≡ option_and_then (number_by option.now.kind)
+        (first_of option.now.name.now (rows_of (found_of matches.now))) }
+{
+    number_within(matches, option, option.kind)
+}
+
+/// The number that the value of an option is, in the range of its row, if it is given.
+pub fn optional_number<'a>(
+    matches: &ArgMatches<'a>,
+    option: &OptionRow,
+) -> Result<Option<u32>, Refusal<'a>>
+    ensures { result_ok result ≡ optional (number_by option.now.kind)
+        (first_of option.now.name.now (rows_of (found_of matches.now))) }
+{
+    let Some(text) = value(matches, option.name) else {
+        return Ok(None);
     };
-    Some(Some(number(text, first, last)?))
+    match number_by(option.kind, text) {
+        Some(number) => Ok(Some(number)),
+        None => Err(option.refuses(option.kind, text)),
+    }
 }
 
 // The number up to `last` that two decimal digits write.

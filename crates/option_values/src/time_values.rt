@@ -1,6 +1,7 @@
 //! Values that are timestamps.
 
 ghost use Rattle.std.specs.Prelude.{◌≡◌, ◌+◌, ◌<◌, ◌++◌, ◌∷◌, [], List, ℕ, length, take};
+ghost use Rattle.std.specs.Result.{result_ok};
 ghost use Rattle.syslog_value.specs.Instants.{IsCivil, IsOffset};
 ghost use Rattle.syslog_fields.specs.Dates.{time_of};
 ghost use Rattle.syslog_fields.specs.Time.{instant};
@@ -10,6 +11,7 @@ ghost use Rattle.option_values.specs.Times.{in_range, time_in};
 ghost use Rattle.option_values.specs.Values.{optional};
 
 use crate::given::value;
+use crate::option_row::{OptionRow, Refusal};
 use clap::ArgMatches;
 use syslog_fields::timestamp::{Timestamp, nilable_time};
 use syslog_value::Instant;
@@ -50,9 +52,9 @@ fn put_spaced(text: &[u8], buf: &mut [u8])
     buf[len] = b' ';
 }
 
-/// The instant of a timestamp (RFC 5424, section 6.2.3), if it lies in the years from 0 to 9999;
-/// None for any other text, also for `-`.
-pub fn instant(text: &str) -> Option<Instant>
+// The instant of a timestamp (RFC 5424, section 6.2.3), if it lies in the years from 0 to 9999;
+// None for any other text, also for `-`.
+fn instant(text: &str) -> Option<Instant>
     ensures { result ≡ time_in text.now }
 {
     let mut buf = [0; SPACED_MAX];
@@ -64,12 +66,19 @@ pub fn instant(text: &str) -> Option<Instant>
     spaced_instant(&buf[..len + 1])
 }
 
-/// The instant that the value of an option names, if it is given; None if the value is refused.
-pub fn optional_instant(matches: &ArgMatches<'_>, id: &str) -> Option<Option<Instant>>
-    ensures { result ≡ optional time_in (first_of id.now (rows_of (found_of matches.now))) }
+/// The instant that the value of an option names, if it is given.
+pub fn optional_instant<'a>(
+    matches: &ArgMatches<'a>,
+    option: &OptionRow,
+) -> Result<Option<Instant>, Refusal<'a>>
+    ensures { result_ok result
+        ≡ optional time_in (first_of option.now.name.now (rows_of (found_of matches.now))) }
 {
-    let Some(text) = value(matches, id) else {
-        return Some(None);
+    let Some(text) = value(matches, option.name) else {
+        return Ok(None);
     };
-    Some(Some(instant(text)?))
+    match instant(text) {
+        Some(instant) => Ok(Some(instant)),
+        None => Err(option.refuses(option.kind, text)),
+    }
 }

@@ -1,8 +1,11 @@
 -- Lists all of whose items are given.
-use Rattle.std.proofs.Common.{◌≡◌, ◌∙◌, ℕ, ◌+◌, ◌<◌, List, [], ◌∷◌, ◌++◌, Option, Some, None, append_assoc}
+use Rattle.std.proofs.Common.{◌≡◌, ◌∙◌, ℕ, ◌+◌, ◌<◌, ◌≤◌, List, [], ◌∷◌, ◌++◌, Option, Some, None, append-nil, append_assoc}
 use Rattle.std.proofs.Common.{ap, get_or, length, map, option_map, option_and_then, refl, sym, take, drop}
-use Rattle.std.proofs.lemmas.List.{drop_more, map-append, take-append-drop, take_more}
-use Rattle.server_words.specs.Listeners.{all_given, some_of}
+use Rattle.std.proofs.lemmas.List.{drop_all, drop_more, map-append, take-append-drop, take_more}
+use Rattle.clap.specs.Walk.{Row}
+use Rattle.server_words.specs.Listeners.{ListenerAsked, all_asked, all_given, asked_in, listeners_in}
+use Rattle.server_words.specs.declared.listeners.ListenerOption.{ListenerOption}
+use Rattle.server_words.specs.declared.listeners.ListenerOption.TheVariants.{Udp, Counted, Lf, Unix, Inherited}
 
 -- the items, where they are given, behind those of a list
 abbrev pub behind : {X : Type 0} → List X → Option (List X) → Option (List X)
@@ -73,20 +76,6 @@ given_none f xs i x less is =
 
 -- ---- one option after the other
 
--- what is found, where these items are left
-abbrev pub found_by : {X : Type 0} → List X → List (Option X) → Option (List X)
-found_by found left = option_and_then some_of (behind found (all_given left))
-
-five : {X : Type 0} (a b c d e : List X) → a ++ b ++ c ++ d ++ e ≡ a ++ (b ++ (c ++ (d ++ e)))
-five a b c d e = simp append_assoc
-
-pub at_first : {X : Type 0} (found : List X) (a b c d e : List (Option X)) → found ≡ []
-    → option_and_then some_of (all_given (a ++ b ++ c ++ d ++ e)) ≡ found_by found (a ++ (b ++ (c ++ (d ++ e))))
-at_first found a b c d e none =
-    ap (λ left. option_and_then some_of (all_given left)) (five a b c d e)
-    ∙ ap (option_and_then some_of) (behind_nothing (all_given (a ++ (b ++ (c ++ (d ++ e))))))
-    ∙ ap (λ xs. found_by xs (a ++ (b ++ (c ++ (d ++ e))))) (sym none)
-
 found_more : {X : Type 0} (f g : List X) (a b : Option (List X)) → Some g ≡ behind f a
     → behind f (joined a b) ≡ behind g b
 found_more f g None b e = absurd cc
@@ -102,33 +91,39 @@ found_none f (Some zs) b e = absurd cc
 module _ {V X : Type 0} (m : V → List X) (found : List X) (ys : List (Option X)) (r : Option V)
     (is : option_map m r ≡ behind found (all_given ys)) where
   -- the values of the next option are given
-  pub next_found : (rest : List (Option X)) (v : V) → r ≡ Some v → found_by found (ys ++ rest) ≡ found_by (m v) rest
+  pub next_found : (rest : List (Option X)) (v : V) → r ≡ Some v
+      → behind found (all_given (ys ++ rest)) ≡ behind (m v) (all_given rest)
   next_found rest v some =
-      ap (λ o. option_and_then some_of (behind found o)) (all_given-append ys rest)
-      ∙ ap (option_and_then some_of) (found_more found (m v) (all_given ys) (all_given rest) (sym (ap (option_map m) some) ∙ is))
+      ap (behind found) (all_given-append ys rest)
+      ∙ found_more found (m v) (all_given ys) (all_given rest) (sym (ap (option_map m) some) ∙ is)
 
   -- one of them is refused
-  pub next_refused : (rest : List (Option X)) → r ≡ None → found_by found (ys ++ rest) ≡ None
+  pub next_refused : (rest : List (Option X)) → r ≡ None → behind found (all_given (ys ++ rest)) ≡ None
   next_refused rest none =
-      ap (λ o. option_and_then some_of (behind found o)) (all_given-append ys rest)
-      ∙ ap (option_and_then some_of) (found_none found (all_given ys) (all_given rest) (sym (ap (option_map m) none) ∙ is))
+      ap (behind found) (all_given-append ys rest)
+      ∙ found_none found (all_given ys) (all_given rest) (sym (ap (option_map m) none) ∙ is)
 
-  -- the values of the last option are given
-  pub last_found : (v : V) → r ≡ Some v → found_by found ys ≡ some_of (m v)
-  last_found v some = ap (option_and_then some_of) (sym is ∙ ap (option_map m) some)
+-- the values of this option, and then of those behind it
+pub next_option : (options : List ListenerOption) (i : ℕ) (option : ListenerOption) (rows : List Row) → i < length options
+    → all_asked (drop i options) rows ≡ asked_in (get_or options i option) rows ++ all_asked (drop (i + 1) options) rows
+next_option options i option rows less = ap (λ left. all_asked left rows) (drop_more options i option less)
 
-  pub last_refused : r ≡ None → found_by found ys ≡ None
-  last_refused none = ap (option_and_then some_of) (sym is ∙ ap (option_map m) none)
+-- the listeners, where no option is left
+pub none_left : (options : List ListenerOption) (i : ℕ) (rows : List Row) (found : List ListenerAsked) → length options ≤ i
+    → behind found (all_given (all_asked (drop i options) rows)) ≡ Some found
+none_left options i rows found all =
+    ap (λ left. behind found (all_given (all_asked left rows))) (drop_all i options all) ∙ ap Some (append-nil found)
 
--- ---- none is refused
-
-pub nothing_asked : {A X : Type 0} (f : A → X) (xs : List A) → length xs ≡ 0 → some_of (map f xs) ≡ None
-nothing_asked f [] none = refl
-nothing_asked f (x ∷ xs) none = absurd cc
-
-pub some_asked : {A X : Type 0} (f : A → X) (xs : List A) → (length xs ≡ 0 → ⊥) → some_of (map f xs) ≡ Some (map f xs)
-some_asked f [] some = absurd (some refl)
-some_asked f (x ∷ xs) some = refl
+-- all five of them
+pub five_options : (rows : List Row) → behind [] (all_given (all_asked (Udp ∷ Counted ∷ Lf ∷ Unix ∷ Inherited ∷ []) rows))
+    ≡ listeners_in rows
+five_options rows =
+    sym (behind_nothing (all_given (all_asked (Udp ∷ Counted ∷ Lf ∷ Unix ∷ Inherited ∷ []) rows)))
+    ∙ ap all_given (five (asked_in Udp rows) (asked_in Counted rows) (asked_in Lf rows) (asked_in Unix rows)
+    (asked_in Inherited rows))
+  where
+    five : {X : Type 0} (a b c d e : List X) → a ++ (b ++ (c ++ (d ++ (e ++ [])))) ≡ a ++ b ++ c ++ d ++ e
+    five a b c d e = simp (append_assoc, append-nil)
 
 -- the texts behind references
 pub map_now : {A B X : Type 0} (f : B → X) (g : A → B) (xs : List A) → map (λ x. f (g x)) xs ≡ map f (map g xs)

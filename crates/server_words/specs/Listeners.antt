@@ -1,6 +1,6 @@
 -- What a server is asked to listen on.
-use Rattle.std.specs.Prelude.{List, [], ◌∷◌, ◌++◌, Option, Some, None, codes, if◌then◌else◌, map, option_and_then}
-use Rattle.std.specs.Prelude.{option_map, unwrap_or}
+use Rattle.std.specs.Prelude.{List, [], ◌∷◌, ◌++◌, Option, Some, None, codes, if◌then◌else◌, map, option_map}
+use Rattle.std.specs.Prelude.{unwrap_or}
 use Rattle.std.specs.Str.{bytes_eq}
 use Rattle.std.specs.declared.net.socket_addr.SocketAddr.{SocketAddr}
 use Rattle.clap.specs.Walk.{Row, Text, all_of}
@@ -55,19 +55,19 @@ listener_of option.Inherited text = option_map (λ kind. Inherited kind) (inheri
 abbrev pub asked_in : ListenerOption → List Row → List (Option ListenerAsked)
 asked_in option rows = map (listener_of option) (unwrap_or (all_of (name_of option) rows) [])
 
+-- the same of several options, one after the other
+abbrev pub all_asked : List ListenerOption → List Row → List (Option ListenerAsked)
+all_asked [] rows = []
+all_asked (option ∷ options) rows = asked_in option rows ++ all_asked options rows
+
 -- all items, where each is given
 abbrev pub all_given : {X : Type 0} → List (Option X) → Option (List X)
 all_given [] = Some []
 all_given (None ∷ rest) = None
 all_given (Some x ∷ rest) = option_map (λ xs. x ∷ xs) (all_given rest)
 
--- the list, where it is not empty
-abbrev pub some_of : {X : Type 0} → List X → Option (List X)
-some_of [] = None
-some_of (x ∷ xs) = Some (x ∷ xs)
-
--- what the options ask for, option by option; none is refused, and there is one at least
+-- what the options ask for, option by option, where none is refused; there may be nothing
 abbrev pub listeners_in : List Row → Option (List ListenerAsked)
 listeners_in rows =
-    option_and_then some_of (all_given (asked_in option.Udp rows ++ asked_in option.Counted rows
-    ++ asked_in option.Lf rows ++ asked_in option.Unix rows ++ asked_in option.Inherited rows))
+    all_given (asked_in option.Udp rows ++ asked_in option.Counted rows ++ asked_in option.Lf rows
+    ++ asked_in option.Unix rows ++ asked_in option.Inherited rows)

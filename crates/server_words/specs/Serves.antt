@@ -1,5 +1,5 @@
 -- What the words of `serve` ask for.
-use Rattle.std.specs.Prelude.{ℕ, ◌/◌, List, None, Option, Some, codes, map, max, option_and_then, option_map}
+use Rattle.std.specs.Prelude.{ℕ, ◌/◌, List, [], ◌∷◌, None, Option, Some, codes, map, max, option_and_then, option_map}
 use Rattle.clap.specs.Walk.{Row, Text, first_of}
 use Rattle.option_values.specs.Numbers.{number_in}
 use Rattle.option_values.specs.Readings.{reading_in}
@@ -44,11 +44,13 @@ options_in rows =
     (optional (number_in 1 16_384) (first_of (codes "per-peer") rows)))
     (option_and_then (number_in 1 16_384) (first_of (codes "connections") rows))
 
+-- a folder, what is listened on, and what the server is to do; none where nothing is listened on
+abbrev pub served : Text → List ListenerAsked → ServeOptions → Option ServeAsked
+served dir [] options = None
+served dir (first ∷ rest) options = Some (record { dir = dir; listeners = first ∷ rest; options = options })
+
 -- the values of the words of `serve`
 abbrev pub serve_in : List Row → Option ServeAsked
 serve_in rows =
-    option_and_then (λ dir. option_and_then (λ options. option_map (λ listeners. record {
-      dir = dir;
-      listeners = listeners;
-      options = options;
-    }) (listeners_in rows)) (options_in rows)) (first_of (codes "DIR") rows)
+    option_and_then (λ dir. option_and_then (λ listeners. option_and_then (served dir listeners) (options_in rows))
+    (listeners_in rows)) (first_of (codes "DIR") rows)

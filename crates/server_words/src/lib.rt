@@ -4,12 +4,9 @@
 //! of a parse.
 #![tactic(auto)]
 
-pub mod address;
+mod address;
 mod listeners;
 mod serve_words;
 
-pub use listeners::{InheritedKind, ListenerWords, inherited};
-pub use serve_words::{
-    CHECKPOINT_MAX, COMMIT_MAX, CONNECTIONS_MAX, IDLE_MAX, ServeOptions, ServeWords,
-    read_serve_words,
-};
+pub use listeners::{InheritedKind, ListenerWords};
+pub use serve_words::{ServeOptions, ServeWords, read_serve_words};

@@ -1,13 +1,15 @@
 //! What a server listens on, by the options that name it.
 
 ghost use Rattle.std.specs.Prelude.{◌≡◌, ◌++◌, IfOk, map, option_map};
+ghost use Rattle.std.specs.Result.{result_ok};
 ghost use Rattle.clap.specs.Words.{found_of, rows_of};
-ghost use Rattle.server_words.specs.Listeners.{all_given, asked_in, inherited_of, listener_asked, listener_of};
+ghost use Rattle.server_words.specs.Listeners.{all_asked, all_given, asked_in, inherited_of, listener_asked, listener_of};
 ghost use Rattle.server_words.specs.Listeners.{listeners_in, name_of};
 
 use crate::address::address;
 use clap::ArgMatches;
-use option_values::values;
+use option_values::options::{COUNTED, INHERITED, LF, UDP, UNIX};
+use option_values::{OptionRow, Refusal, values};
 use std::alloc::{AllocError, Global};
 use std::net::SocketAddr;
 
@@ -47,21 +49,21 @@ pub(crate) enum ListenerOption {
     Inherited,
 }
 
-// The name of an option.
-fn name_of(option: ListenerOption) -> &'static str
-    ensures { result.now ≡ name_of option }
+// The row of an option.
+fn row_of(option: ListenerOption) -> OptionRow
+    ensures { result.name.now ≡ name_of option }
 {
     match option {
-        ListenerOption::Udp => "udp",
-        ListenerOption::Counted => "counted",
-        ListenerOption::Lf => "lf",
-        ListenerOption::Unix => "unix",
-        ListenerOption::Inherited => "inherited",
+        ListenerOption::Udp => UDP,
+        ListenerOption::Counted => COUNTED,
+        ListenerOption::Lf => LF,
+        ListenerOption::Unix => UNIX,
+        ListenerOption::Inherited => INHERITED,
     }
 }
 
-/// The kind of descriptor with this name, `udp`, `counted` or `lf`; None for any other text.
-pub fn inherited(name: &str) -> Option<InheritedKind>
+// The kind of descriptor with this name, `udp`, `counted` or `lf`; None for any other text.
+fn inherited(name: &str) -> Option<InheritedKind>
     ensures { result ≡ inherited_of name.now }
 {
     match name {
@@ -85,68 +87,78 @@ fn listener<'a>(option: ListenerOption, text: &'a str) -> Option<ListenerWords<'
     }
 }
 
-// The listeners with those of an option's values behind them; None where a value is refused.
+// The listeners with those of an option's values behind them.
 fn with_texts<'a>(
     option: ListenerOption,
     texts: &[&'a str],
     listeners: Vec<ListenerWords<'a>>,
-) -> Result<Option<Vec<ListenerWords<'a>>>, AllocError>
-    ensures { IfOk result (λ r. option_map (λ v. map listener_asked v.items) r
+) -> Result<Result<Vec<ListenerWords<'a>>, Refusal<'a>>, AllocError>
+    ensures { IfOk result (λ r. option_map (λ v. map listener_asked v.items) (result_ok r)
         ≡ option_map (λ more. map listener_asked listeners.entry.items ++ more)
         (all_given (map (λ s. listener_of option s.now) texts.now))) }
 {
     let mut listeners = listeners;
     for text in texts {
         let Some(listener) = listener(option, text) else {
-            return Ok(None);
+            let row = row_of(option);
+            return Ok(Err(row.refuses(row.kind, text)));
         };
         listeners.push(listener)?;
     }
-    Ok(Some(listeners))
+    Ok(Ok(listeners))
 }
 
-// The listeners with those of an option behind them; None where a value is refused.
+// The listeners with those of an option behind them.
 fn with_option<'a>(
     option: ListenerOption,
     matches: &ArgMatches<'a>,
     listeners: Vec<ListenerWords<'a>>,
-) -> Result<Option<Vec<ListenerWords<'a>>>, AllocError>
-    ensures { IfOk result (λ r. option_map (λ v. map listener_asked v.items) r
+) -> Result<Result<Vec<ListenerWords<'a>>, Refusal<'a>>, AllocError>
+    ensures { IfOk result (λ r. option_map (λ v. map listener_asked v.items) (result_ok r)
         ≡ option_map (λ more. map listener_asked listeners.entry.items ++ more)
         (all_given (asked_in option (rows_of (found_of matches.now))))) }
 {
-    match values(matches, name_of(option)) {
+    match values(matches, row_of(option).name) {
         Some(texts) => with_texts(option, texts, listeners),
-        None => Ok(Some(listeners)),
+        None => Ok(Ok(listeners)),
     }
 }
 
+// The listeners with those of these options behind them.
+fn with_options<'a>(
+    options: &[ListenerOption],
+    matches: &ArgMatches<'a>,
+    listeners: Vec<ListenerWords<'a>>,
+) -> Result<Result<Vec<ListenerWords<'a>>, Refusal<'a>>, AllocError>
+    ensures { IfOk result (λ r. option_map (λ v. map listener_asked v.items) (result_ok r)
+        ≡ option_map (λ more. map listener_asked listeners.entry.items ++ more)
+        (all_given (all_asked options.now (rows_of (found_of matches.now))))) }
+{
+    let mut listeners = listeners;
+    for option in options {
+        match with_option(*option, matches, listeners)? {
+            Ok(more) => listeners = more,
+            Err(refusal) => return Ok(Err(refusal)),
+        }
+    }
+    Ok(Ok(listeners))
+}
+
 /// What the options ask to listen on: those of `--udp`, then `--counted`, `--lf`, `--unix` and
-/// `--inherited`, each in the order of its values. None if a value is refused or there is none.
+/// `--inherited`, each in the order of its values; there may be none.
 pub(crate) fn listeners<'a>(
     alloc: Global,
     matches: &ArgMatches<'a>,
-) -> Result<Option<Vec<ListenerWords<'a>>>, AllocError>
-    ensures { IfOk result (λ r. option_map (λ v. map listener_asked v.items) r
+) -> Result<Result<Vec<ListenerWords<'a>>, Refusal<'a>>, AllocError>
+    ensures { IfOk result (λ r. option_map (λ v. map listener_asked v.items) (result_ok r)
         ≡ listeners_in (rows_of (found_of matches.now))) }
 {
-    let Some(found) = with_option(ListenerOption::Udp, matches, Vec::new(alloc))? else {
-        return Ok(None);
-    };
-    let Some(found) = with_option(ListenerOption::Counted, matches, found)? else {
-        return Ok(None);
-    };
-    let Some(found) = with_option(ListenerOption::Lf, matches, found)? else {
-        return Ok(None);
-    };
-    let Some(found) = with_option(ListenerOption::Unix, matches, found)? else {
-        return Ok(None);
-    };
-    let Some(found) = with_option(ListenerOption::Inherited, matches, found)? else {
-        return Ok(None);
-    };
-    if found.is_empty() {
-        return Ok(None);
-    }
-    Ok(Some(found))
+    let options = [
+        ListenerOption::Udp,
+        ListenerOption::Counted,
+        ListenerOption::Lf,
+        ListenerOption::Unix,
+        ListenerOption::Inherited,
+    ];
+    with_options(&options, matches, Vec::new(alloc))
 }

@@ -1,26 +1,18 @@
 //! The words of `serve`.
 
-ghost use Rattle.std.specs.Prelude.{◌≡◌, IfOk, codes, option_map};
+ghost use Rattle.std.specs.Prelude.{◌≡◌, IfOk, option_map};
+ghost use Rattle.std.specs.Result.{result_ok};
 ghost use Rattle.clap.specs.Words.{found_of, rows_of};
 ghost use Rattle.server_words.specs.Serves.{options_in, per_peer_of, serve_asked, serve_in};
 
 use crate::listeners::{ListenerWords, listeners};
 use clap::ArgMatches;
-use option_values::{is_given, number, optional_number, reading_of_matches, value};
+use option_values::options::{
+    CHECKPOINT, COMMIT, CONNECTIONS, IDLE, PER_PEER, SERVED_DIR, UNTIL_EOF,
+};
+use option_values::{Refusal, is_given, number, optional_number, reading_of_matches, value};
 use std::alloc::{AllocError, Global};
 use syslog_legacy::FrameReading;
-
-/// How many connections may be open at once at most.
-pub const CONNECTIONS_MAX: u32 = 16_384;
-
-/// The longest time that a connection may be idle, in seconds: a year.
-pub const IDLE_MAX: u32 = 31_536_000;
-
-/// The longest time before a batch is committed, in milliseconds: an hour.
-pub const COMMIT_MAX: u32 = 3_600_000;
-
-/// The largest journal before a checkpoint, in MiB.
-pub const CHECKPOINT_MAX: u32 = 2_048;
 
 /// What a server is to do.
 #[derive(Clone, Copy, Debug, PartialEq, Eq)]
@@ -66,42 +58,50 @@ fn per_peer(given: Option<u32>, connections: u32) -> u32
     }
 }
 
-// What a server is to do, by the options; None where a value is refused.
-fn options(matches: &ArgMatches<'_>) -> Option<ServeOptions>
-    ensures { result ≡ options_in (rows_of (found_of matches.now)) }
+// What a server is to do, by the options.
+fn options<'a>(matches: &ArgMatches<'a>) -> Result<ServeOptions, Refusal<'a>>
+    ensures { result_ok result ≡ options_in (rows_of (found_of matches.now)) }
 {
-    let connections = number(value(matches, "connections")?, 1, CONNECTIONS_MAX)?;
-    let given = optional_number(matches, "per-peer", 1, CONNECTIONS_MAX)?;
-    let idle_seconds = optional_number(matches, "idle", 1, IDLE_MAX)?;
-    let commit_millis = number(value(matches, "commit")?, 0, COMMIT_MAX)?;
-    let checkpoint_mib = number(value(matches, "checkpoint")?, 1, CHECKPOINT_MAX)?;
+    let connections = number(matches, &CONNECTIONS)?;
+    let given = optional_number(matches, &PER_PEER)?;
+    let idle_seconds = optional_number(matches, &IDLE)?;
+    let commit_millis = number(matches, &COMMIT)?;
+    let checkpoint_mib = number(matches, &CHECKPOINT)?;
     let reading = reading_of_matches(matches)?;
-    Some(ServeOptions {
+    Ok(ServeOptions {
         connections,
         per_peer: per_peer(given, connections),
         idle_seconds,
         commit_millis,
         checkpoint_mib,
-        until_eof: is_given(matches, "until-eof"),
+        until_eof: is_given(matches, UNTIL_EOF.name),
         reading,
     })
 }
 
-/// What the words of `serve` ask for; None if a value is refused or nothing is listened on.
+/// What the words of `serve` ask for: something is listened on. It fails only when out of memory.
 pub fn read_serve_words<'a>(
     alloc: Global,
     matches: &ArgMatches<'a>,
-) -> Result<Option<ServeWords<'a>>, AllocError>
+) -> Result<Result<ServeWords<'a>, Refusal<'a>>, AllocError>
     ensures { IfOk result (λ r.
-        option_map serve_asked r ≡ serve_in (rows_of (found_of matches.now))) }
+        option_map serve_asked (result_ok r) ≡ serve_in (rows_of (found_of matches.now))) }
 {
-    let (Some(dir), Some(options)) = (value(matches, "DIR"), options(matches)) else {
-        return Ok(None);
+    let Some(dir) = value(matches, SERVED_DIR.name) else {
+        return Ok(Err(Refusal::Missing));
     };
-    let Some(listeners) = listeners(alloc, matches)? else {
-        return Ok(None);
+    let listeners = match listeners(alloc, matches)? {
+        Ok(listeners) => listeners,
+        Err(refusal) => return Ok(Err(refusal)),
     };
-    Ok(Some(ServeWords {
+    let options = match options(matches) {
+        Ok(options) => options,
+        Err(refusal) => return Ok(Err(refusal)),
+    };
+    if listeners.is_empty() {
+        return Ok(Err(Refusal::NoListener));
+    }
+    Ok(Ok(ServeWords {
         dir,
         listeners,
         options,

@@ -1,5 +1,6 @@
 use Rattle.std.proofs.Common.{◌≡◌, ◌∙◌, ap, map, List, [], option_map, subst}
 use Rattle.std.specs.Prelude.{IfOk, Option, unwrap_or}
+use Rattle.std.specs.Result.{result_ok}
 use Rattle.clap.specs.Walk.{Text, all_of}
 use Rattle.clap.specs.Words.{found_of, rows_of}
 use Rattle.server_words.specs.Listeners.{ListenerAsked, all_given, listener_asked, listener_of}
@@ -9,8 +10,8 @@ use Rattle.server_words.proofs.listeners.with_option.Goals as goal
 pub returns-in-Some : goal.returns-in-Some
 returns-in-Some c =
     subst (λ (xs : List (Option ListenerAsked)). IfOk c.with_texts.result (λ r.
-    option_map (λ v. map listener_asked v.items) r ≡ behind (map listener_asked c.args.listeners.items) (all_given xs)))
+    option_map (λ v. map listener_asked v.items) (result_ok r) ≡ behind (map listener_asked c.args.listeners.items) (all_given xs)))
     (map_now (listener_of c.args.option) (λ s. s.now) c.in-Some.texts.now
     ∙ ap (λ (o : Option (List Text)). map (listener_of c.args.option) (unwrap_or o []))
-    (c.in-Some.ensures ∙ ap (λ id. all_of id (rows_of (found_of c.args.matches.now))) c.name_of.ensures))
+    (c.in-Some.ensures ∙ ap (λ id. all_of id (rows_of (found_of c.args.matches.now))) c.row_of.ensures))
     c.with_texts.ensures

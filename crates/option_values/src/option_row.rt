@@ -1,0 +1,161 @@
+//! What the table says of an option, and the text for a value that it does not take.
+
+use std::alloc::{AllocError, Global};
+
+/// How an option is given.
+#[derive(Clone, Copy, Debug, PartialEq, Eq)]
+pub enum Form {
+    /// A value that has to be given, by its place.
+    Positional,
+    /// One value or more by their places, at most [`FILES_MAX`].
+    Several,
+    /// No value: it is given or not.
+    Flag,
+    /// A value, at most once.
+    Single,
+    /// A value, any number of times.
+    List,
+    /// A value, and this one where the option is not given.
+    Default(&'static str),
+}
+
+/// How many values an option by places takes at most.
+pub const FILES_MAX: usize = 512;
+
+/// What the value of an option may be.
+#[derive(Clone, Copy, Debug, PartialEq, Eq)]
+pub enum Kind {
+    /// Any text.
+    Text,
+    /// The name of a file.
+    File,
+    /// The name of a folder.
+    Folder,
+    /// A number in decimal digits, from the first to the last.
+    Number(u32, u32),
+    /// A year, from the first to the last.
+    Year(u32, u32),
+    /// An offset from UTC.
+    Zone,
+    /// A time of RFC 5424.
+    Time,
+    /// An address and a port.
+    Address,
+    /// The name of a facility.
+    Facility,
+    /// One of a few words, which the text lists.
+    Words(&'static str),
+}
+
+/// A row of the table of options.
+#[derive(Clone, Copy, Debug, PartialEq, Eq)]
+pub struct OptionRow {
+    /// The name, in capitals where the value is given by its place.
+    pub name: &'static str,
+    /// How it is given.
+    pub form: Form,
+    /// What the manual calls its value.
+    pub value: &'static str,
+    /// What its value may be.
+    pub kind: Kind,
+    /// What it does, in one line.
+    pub help: &'static str,
+}
+
+/// A row of the table of commands.
+#[derive(Clone, Copy, Debug, PartialEq, Eq)]
+pub struct CommandRow {
+    /// The name.
+    pub name: &'static str,
+    /// What it does, in one line.
+    pub about: &'static str,
+    /// Its options, and its values by their places, in the order of its help.
+    pub options: &'static [OptionRow],
+}
+
+/// Why values that the parser accepts ask for nothing.
+#[derive(Clone, Copy, Debug, PartialEq, Eq)]
+pub enum Refusal<'a> {
+    /// An option does not take this value.
+    Value {
+        /// The option.
+        option: OptionRow,
+        /// What its value may be.
+        kind: Kind,
+        /// The value.
+        text: &'a str,
+    },
+    /// A value is missing that has to be there.
+    Missing,
+    /// No option of `serve` names a listener.
+    NoListener,
+    /// `--only-undated` was given beside this option.
+    Excluded(OptionRow),
+}
+
+impl OptionRow {
+    /// The refusal of a value of the option, which would have to be of this kind.
+    pub fn refuses<'a>(&self, kind: Kind, text: &'a str) -> Refusal<'a> {
+        Refusal::Value {
+            option: *self,
+            kind,
+            text,
+        }
+    }
+}
+
+// What a value of a kind is, as a text for the user.
+fn expected(alloc: Global, kind: Kind) -> Result<String, AllocError> {
+    let text = match kind {
+        Kind::Text => "a text",
+        Kind::File => "a file",
+        Kind::Folder => "a folder",
+        Kind::Number(first, last) => {
+            return format!(in alloc; "a number from {first} to {last}");
+        }
+        Kind::Year(first, last) => {
+            return format!(in alloc; "a year from {first} to {last}");
+        }
+        Kind::Zone => "E or W, then hours and minutes in two digits each, such as E0130",
+        Kind::Time => {
+            "a time of RFC 5424 in the years 0 to 9999 of UTC, such as 2026-11-25T10:00:00Z"
+        }
+        Kind::Address => "an address and a port, such as 127.0.0.1:514 or [::1]:514",
+        Kind::Facility => {
+            "kern, user, mail, daemon, auth, syslog, lpr, news, uucp, cron, authpriv, ftp, ntp, \
+             audit, alert, clock or local0 to local7"
+        }
+        Kind::Words(words) => words,
+    };
+    String::from_str(alloc, text)
+}
+
+// What stands before the name of an option, but not before that of a value by its place.
+fn dashes(form: Form) -> &'static str {
+    match form {
+        Form::Positional | Form::Several => "",
+        Form::Flag | Form::Single | Form::List | Form::Default(_) => "--",
+    }
+}
+
+/// The text of a refusal. It fails only when out of memory.
+pub fn refusal_text(alloc: Global, refusal: Refusal<'_>) -> Result<String, AllocError> {
+    match refusal {
+        Refusal::Value { option, kind, text } => {
+            let dashes = dashes(option.form);
+            let name = option.name;
+            let expected = expected(alloc, kind)?;
+            format!(in alloc;
+                "error: invalid value '{text}' for {dashes}{name}: expected {expected}\n"
+            )
+        }
+        Refusal::Missing => String::from_str(alloc, "error: a value is missing\n"),
+        Refusal::NoListener => String::from_str(
+            alloc,
+            "error: serve needs a listener: --udp, --counted, --lf, --unix or --inherited\n",
+        ),
+        Refusal::Excluded(OptionRow { name, .. }) => {
+            format!(in alloc; "error: --only-undated cannot be used with --{name}\n")
+        }
+    }
+}

@@ -1,0 +1,679 @@
+//! The table of options: one row for each option of a command, and for each value by its place; and one
+//! for each command, with its options in the order of its help.
+//!
+//! A row stands here once. From it come the parser and its help, the range that a reader tests, the text
+//! for a value that is refused, the completions and the lists of the manual (`scripts/options.py`).
+
+use crate::option_row::{CommandRow, Form, Kind, OptionRow};
+
+// ---- How frames are read.
+
+/// `--framing` of commands on frames.
+pub const FRAMING: OptionRow = OptionRow {
+    name: "framing",
+    form: Form::Default("datagram"),
+    value: "framing",
+    kind: Kind::Words("datagram, counted or lf"),
+    help: "Framing of the input: datagram, counted or lf",
+};
+
+/// `--trim` of commands that read frames.
+pub const TRIM: OptionRow = OptionRow {
+    name: "trim",
+    form: Form::Flag,
+    value: "",
+    kind: Kind::Text,
+    help: "Drop CR LF, LF, CR or NUL from the end of each frame, once",
+};
+
+/// `--legacy` of commands that read frames.
+pub const LEGACY: OptionRow = OptionRow {
+    name: "legacy",
+    form: Form::Single,
+    value: "year",
+    kind: Kind::Year(1, 9_998),
+    help: "Also read legacy packets (RFC 3164), with times of this year: 1 to 9998",
+};
+
+/// `--zone` of commands that read frames.
+pub const ZONE: OptionRow = OptionRow {
+    name: "zone",
+    form: Form::Default("E0000"),
+    value: "zone",
+    kind: Kind::Zone,
+    help: "Offset of their times from UTC: E (ahead) or W (behind), hours and minutes, such as E0130",
+};
+
+/// `--dialect` of commands that read frames.
+pub const DIALECT: OptionRow = OptionRow {
+    name: "dialect",
+    form: Form::Default("bsd"),
+    value: "dialect",
+    kind: Kind::Words("bsd or wide"),
+    help: "Dialect of legacy packets: bsd (RFC 3164) or wide (also what many devices and programs send)",
+};
+
+// ---- What is done with frames.
+
+/// `--json` of `show`.
+pub const JSON: OptionRow = OptionRow {
+    name: "json",
+    form: Form::Flag,
+    value: "",
+    kind: Kind::Text,
+    help: "Write each record as one line of JSON",
+};
+
+/// `--summary` of `check`.
+pub const SUMMARY: OptionRow = OptionRow {
+    name: "summary",
+    form: Form::Flag,
+    value: "",
+    kind: Kind::Text,
+    help: "At the end, print how many packets were legacy, and how many of these had no time or no host",
+};
+
+/// `--to` of `convert`.
+pub const OUTPUT_FRAMING: OptionRow = OptionRow {
+    name: "to",
+    form: Form::Single,
+    value: "framing",
+    kind: Kind::Words("counted or lf"),
+    help: "Framing of the output: counted or lf [default: that of the input]",
+};
+
+/// `--spill` of `archive`.
+pub const SPILL: OptionRow = OptionRow {
+    name: "spill",
+    form: Form::Single,
+    value: "folder",
+    kind: Kind::Folder,
+    help: "Folder for what does not fit in memory; its files are unlinked while open",
+};
+
+/// `--memory` of `archive`.
+pub const MEMORY: OptionRow = OptionRow {
+    name: "memory",
+    form: Form::Default("256"),
+    value: "MiB",
+    kind: Kind::Number(1, 1_048_576),
+    help: "MiB of memory for the records, with --spill: 1 to 1048576",
+};
+
+// ---- Archives.
+
+/// `LEFT` of commands on two archives.
+pub const LEFT: OptionRow = OptionRow {
+    name: "LEFT",
+    form: Form::Positional,
+    value: "left",
+    kind: Kind::File,
+    help: "File of an archive",
+};
+
+/// `RIGHT` of commands on two archives.
+pub const RIGHT: OptionRow = OptionRow {
+    name: "RIGHT",
+    form: Form::Positional,
+    value: "right",
+    kind: Kind::File,
+    help: "File of another archive",
+};
+
+/// `FILE` of `migrate`.
+pub const OLD_FILE: OptionRow = OptionRow {
+    name: "FILE",
+    form: Form::Positional,
+    value: "file",
+    kind: Kind::File,
+    help: "File of an old archive",
+};
+
+/// `FILE` of `union`.
+pub const FILES: OptionRow = OptionRow {
+    name: "FILE",
+    form: Form::Several,
+    value: "file",
+    kind: Kind::File,
+    help: "Files of archives, 1 to 512 of them",
+};
+
+/// `--by` of `digest`.
+pub const PERIOD: OptionRow = OptionRow {
+    name: "by",
+    form: Form::Default("day"),
+    value: "period",
+    kind: Kind::Words("month, day or hour"),
+    help: "Length of the periods: month, day or hour",
+};
+
+// ---- Conditions on records.
+
+/// `--from` of select and read.
+pub const FROM: OptionRow = OptionRow {
+    name: "from",
+    form: Form::Single,
+    value: "time",
+    kind: Kind::Time,
+    help: "Records at or after this time of RFC 5424, such as 2026-11-25T10:00:00Z",
+};
+
+/// `--to` of select and read.
+pub const UNTIL: OptionRow = OptionRow {
+    name: "to",
+    form: Form::Single,
+    value: "time",
+    kind: Kind::Time,
+    help: "Records before this time",
+};
+
+/// `--undated` of select and read.
+pub const UNDATED: OptionRow = OptionRow {
+    name: "undated",
+    form: Form::Flag,
+    value: "",
+    kind: Kind::Text,
+    help: "Also records without a time, which --from and --to leave out",
+};
+
+/// `--only-undated` of `select`.
+pub const ONLY_UNDATED: OptionRow = OptionRow {
+    name: "only-undated",
+    form: Form::Flag,
+    value: "",
+    kind: Kind::Text,
+    help: "Only records without a time",
+};
+
+/// `--severity` of `select`.
+pub const SEVERITY: OptionRow = OptionRow {
+    name: "severity",
+    form: Form::Single,
+    value: "name",
+    kind: Kind::Words("emerg, alert, crit, err, warning, notice, info or debug"),
+    help: "Records of this severity or a more severe one: emerg, alert, crit, err, warning, notice, info or debug",
+};
+
+/// `--facility` of `select`.
+pub const FACILITY: OptionRow = OptionRow {
+    name: "facility",
+    form: Form::Single,
+    value: "name",
+    kind: Kind::Facility,
+    help: "Records of this facility: kern, user, mail, daemon, ... or local0 to local7",
+};
+
+/// `--host` of `select`.
+pub const HOST: OptionRow = OptionRow {
+    name: "host",
+    form: Form::Single,
+    value: "word",
+    kind: Kind::Text,
+    help: "Records with this HOSTNAME; - for none",
+};
+
+/// `--app` of `select`.
+pub const APP: OptionRow = OptionRow {
+    name: "app",
+    form: Form::Single,
+    value: "word",
+    kind: Kind::Text,
+    help: "Records with this APP-NAME; - for none",
+};
+
+/// `--proc` of `select`.
+pub const PROC: OptionRow = OptionRow {
+    name: "proc",
+    form: Form::Single,
+    value: "word",
+    kind: Kind::Text,
+    help: "Records with this PROCID; - for none",
+};
+
+/// `--msgid` of `select`.
+pub const MSGID: OptionRow = OptionRow {
+    name: "msgid",
+    form: Form::Single,
+    value: "word",
+    kind: Kind::Text,
+    help: "Records with this MSGID; - for none",
+};
+
+/// `--id` of `select`.
+pub const ID: OptionRow = OptionRow {
+    name: "id",
+    form: Form::Single,
+    value: "id",
+    kind: Kind::Text,
+    help: "Records that have an element with this SD-ID",
+};
+
+// ---- One record that is sent.
+
+/// `--facility` of `send`.
+pub const SENT_FACILITY: OptionRow = OptionRow {
+    name: "facility",
+    form: Form::Default("user"),
+    value: "name",
+    kind: Kind::Facility,
+    help: "Facility: kern, user, mail, daemon, ... or local0 to local7",
+};
+
+/// `--severity` of `send`.
+pub const SENT_SEVERITY: OptionRow = OptionRow {
+    name: "severity",
+    form: Form::Default("notice"),
+    value: "name",
+    kind: Kind::Words("emerg, alert, crit, err, warning, notice, info or debug"),
+    help: "Severity: emerg, alert, crit, err, warning, notice, info or debug",
+};
+
+/// `--up-to` of `send`.
+pub const UP_TO: OptionRow = OptionRow {
+    name: "up-to",
+    form: Form::Default("debug"),
+    value: "name",
+    kind: Kind::Words("emerg, alert, crit, err, warning, notice, info or debug"),
+    help: "Least severe severity that is sent",
+};
+
+/// `--framing` of `send`.
+pub const SENT_FRAMING: OptionRow = OptionRow {
+    name: "framing",
+    form: Form::Default("lf"),
+    value: "framing",
+    kind: Kind::Words("counted or lf"),
+    help: "Framing of the output: counted or lf",
+};
+
+/// `--host` of `send`.
+pub const SENT_HOST: OptionRow = OptionRow {
+    name: "host",
+    form: Form::Single,
+    value: "word",
+    kind: Kind::Text,
+    help: "HOSTNAME",
+};
+
+/// `--app` of `send`.
+pub const SENT_APP: OptionRow = OptionRow {
+    name: "app",
+    form: Form::Single,
+    value: "word",
+    kind: Kind::Text,
+    help: "APP-NAME",
+};
+
+/// `--proc` of `send`.
+pub const SENT_PROC: OptionRow = OptionRow {
+    name: "proc",
+    form: Form::Single,
+    value: "word",
+    kind: Kind::Text,
+    help: "PROCID",
+};
+
+/// `--msgid` of `send`.
+pub const SENT_MSGID: OptionRow = OptionRow {
+    name: "msgid",
+    form: Form::Single,
+    value: "word",
+    kind: Kind::Text,
+    help: "MSGID",
+};
+
+/// `--micros` of `send`.
+pub const MICROS: OptionRow = OptionRow {
+    name: "micros",
+    form: Form::Single,
+    value: "number",
+    kind: Kind::Text,
+    help: "Time: microseconds from 1970-01-01T00:00:00Z",
+};
+
+/// `TEXT` of `send`.
+pub const MESSAGE: OptionRow = OptionRow {
+    name: "TEXT",
+    form: Form::Positional,
+    value: "text",
+    kind: Kind::Text,
+    help: "Message",
+};
+
+// ---- Records that are collected into an archive.
+
+/// `TRANSPORT` of `collect`.
+pub const TRANSPORT: OptionRow = OptionRow {
+    name: "TRANSPORT",
+    form: Form::Positional,
+    value: "transport",
+    kind: Kind::Words("udp, counted or lf"),
+    help: "udp, or counted or lf (both over TCP)",
+};
+
+/// `PORT` of `collect`.
+pub const PORT: OptionRow = OptionRow {
+    name: "PORT",
+    form: Form::Positional,
+    value: "port",
+    kind: Kind::Number(1, 65_535),
+    help: "Port: 1 to 65535",
+};
+
+/// `COUNT` of `collect`.
+pub const COUNT: OptionRow = OptionRow {
+    name: "COUNT",
+    form: Form::Positional,
+    value: "count",
+    kind: Kind::Number(1, 1_000_000),
+    help: "Number of datagrams (1 to 1000000) or connections (1 to 100000) to receive",
+};
+
+// ---- Stores.
+
+/// `DIR` of read, verify and compact.
+pub const DIR: OptionRow = OptionRow {
+    name: "DIR",
+    form: Form::Positional,
+    value: "dir",
+    kind: Kind::Folder,
+    help: "Folder of a store",
+};
+
+/// `DIR` of `serve`.
+pub const SERVED_DIR: OptionRow = OptionRow {
+    name: "DIR",
+    form: Form::Positional,
+    value: "dir",
+    kind: Kind::Folder,
+    help: "Folder of the store; it is made if it is missing",
+};
+
+/// `--udp` of `serve`.
+pub const UDP: OptionRow = OptionRow {
+    name: "udp",
+    form: Form::List,
+    value: "addr:port",
+    kind: Kind::Address,
+    help: "Receive datagrams on ADDR:PORT, such as 127.0.0.1:514 or [::1]:514",
+};
+
+/// `--counted` of `serve`.
+pub const COUNTED: OptionRow = OptionRow {
+    name: "counted",
+    form: Form::List,
+    value: "addr:port",
+    kind: Kind::Address,
+    help: "Accept connections on ADDR:PORT whose frames are counted",
+};
+
+/// `--lf` of `serve`.
+pub const LF: OptionRow = OptionRow {
+    name: "lf",
+    form: Form::List,
+    value: "addr:port",
+    kind: Kind::Address,
+    help: "Accept connections on ADDR:PORT whose frames are lines",
+};
+
+/// `--unix` of `serve`.
+pub const UNIX: OptionRow = OptionRow {
+    name: "unix",
+    form: Form::List,
+    value: "path",
+    kind: Kind::File,
+    help: "Receive datagrams on a socket at this path",
+};
+
+/// `--inherited` of `serve`.
+pub const INHERITED: OptionRow = OptionRow {
+    name: "inherited",
+    form: Form::List,
+    value: "kind",
+    kind: Kind::Words("udp, counted or lf"),
+    help: "Use the next inherited descriptor, from 3 on, as a socket of this kind: udp, counted or lf",
+};
+
+/// `--connections` of `serve`.
+pub const CONNECTIONS: OptionRow = OptionRow {
+    name: "connections",
+    form: Form::Default("1024"),
+    value: "n",
+    kind: Kind::Number(1, 16_384),
+    help: "Connections that may be open at once: 1 to 16384",
+};
+
+/// `--per-peer` of `serve`.
+pub const PER_PEER: OptionRow = OptionRow {
+    name: "per-peer",
+    form: Form::Single,
+    value: "n",
+    kind: Kind::Number(1, 16_384),
+    help: "Connections that one address may have open at once: 1 to 16384 [default: a quarter of all]",
+};
+
+/// `--idle` of `serve`.
+pub const IDLE: OptionRow = OptionRow {
+    name: "idle",
+    form: Form::Single,
+    value: "seconds",
+    kind: Kind::Number(1, 31_536_000),
+    help: "Seconds without an octet after which a connection is closed: 1 to 31536000 [default: never]",
+};
+
+/// `--commit` of `serve`.
+pub const COMMIT: OptionRow = OptionRow {
+    name: "commit",
+    form: Form::Default("1000"),
+    value: "ms",
+    kind: Kind::Number(0, 3_600_000),
+    help: "Milliseconds within which a record is committed: 0 (before the next read) to 3600000",
+};
+
+/// `--checkpoint` of `serve`.
+pub const CHECKPOINT: OptionRow = OptionRow {
+    name: "checkpoint",
+    form: Form::Default("64"),
+    value: "mib",
+    kind: Kind::Number(1, 2_048),
+    help: "MiB that a journal may reach before a checkpoint: 1 to 2048",
+};
+
+/// `--until-eof` of `serve`.
+pub const UNTIL_EOF: OptionRow = OptionRow {
+    name: "until-eof",
+    form: Form::Flag,
+    value: "",
+    kind: Kind::Text,
+    help: "End when standard input ends",
+};
+
+// ---- The commands.
+
+/// `show`.
+pub const SHOW_COMMAND: CommandRow = CommandRow {
+    name: "show",
+    about: "Write the fields of each record",
+    options: &[FRAMING, TRIM, LEGACY, ZONE, DIALECT, JSON],
+};
+
+/// `check`.
+pub const CHECK_COMMAND: CommandRow = CommandRow {
+    name: "check",
+    about: "Say for each frame whether it is a record, and if not, where it stops being one",
+    options: &[FRAMING, TRIM, LEGACY, ZONE, DIALECT, SUMMARY],
+};
+
+/// `convert`.
+pub const CONVERT_COMMAND: CommandRow = CommandRow {
+    name: "convert",
+    about: "Write the canonical octets of each record",
+    options: &[FRAMING, TRIM, LEGACY, ZONE, DIALECT, OUTPUT_FRAMING],
+};
+
+/// `archive`.
+pub const ARCHIVE_COMMAND: CommandRow = CommandRow {
+    name: "archive",
+    about: "Write the records as an archive: each once, in its canonical form, in one order",
+    options: &[FRAMING, TRIM, LEGACY, ZONE, DIALECT, SPILL, MEMORY],
+};
+
+/// `merge`.
+pub const MERGE_COMMAND: CommandRow = CommandRow {
+    name: "merge",
+    about: "Write the archive of the records of two archives",
+    options: &[LEFT, RIGHT],
+};
+
+/// `migrate`.
+pub const MIGRATE_COMMAND: CommandRow = CommandRow {
+    name: "migrate",
+    about: "Write the archive of the records of an old one, whose elements are in the order in which they came",
+    options: &[OLD_FILE],
+};
+
+/// `union`.
+pub const UNION_COMMAND: CommandRow = CommandRow {
+    name: "union",
+    about: "Write the archive of the records of one or more archives",
+    options: &[FILES],
+};
+
+/// `common`.
+pub const COMMON_COMMAND: CommandRow = CommandRow {
+    name: "common",
+    about: "Write the archive of the records that two archives both have",
+    options: &[LEFT, RIGHT],
+};
+
+/// `minus`.
+pub const MINUS_COMMAND: CommandRow = CommandRow {
+    name: "minus",
+    about: "Write the archive of the records of one archive that another lacks",
+    options: &[LEFT, RIGHT],
+};
+
+/// `diff`.
+pub const DIFF_COMMAND: CommandRow = CommandRow {
+    name: "diff",
+    about: "Write a line for each record that only one of two archives has",
+    options: &[LEFT, RIGHT],
+};
+
+/// `select`.
+pub const SELECT_COMMAND: CommandRow = CommandRow {
+    name: "select",
+    about: "Write the archive of the records of an archive that meet all conditions",
+    options: &[
+        FROM,
+        UNTIL,
+        UNDATED,
+        ONLY_UNDATED,
+        SEVERITY,
+        FACILITY,
+        HOST,
+        APP,
+        PROC,
+        MSGID,
+        ID,
+    ],
+};
+
+/// `digest`.
+pub const DIGEST_COMMAND: CommandRow = CommandRow {
+    name: "digest",
+    about: "Write a line for each period of an archive: its records, octets and SHA-256",
+    options: &[PERIOD],
+};
+
+/// `read`.
+pub const READ_COMMAND: CommandRow = CommandRow {
+    name: "read",
+    about: "Write the archive of the records that a store holds",
+    options: &[DIR, FROM, UNTIL, UNDATED],
+};
+
+/// `verify`.
+pub const VERIFY_COMMAND: CommandRow = CommandRow {
+    name: "verify",
+    about: "Read a whole store and write a line for each damaged file",
+    options: &[DIR],
+};
+
+/// `compact`.
+pub const COMPACT_COMMAND: CommandRow = CommandRow {
+    name: "compact",
+    about: "Join the segments of each day of a store that has more than eight",
+    options: &[DIR],
+};
+
+/// `send`.
+pub const SEND_COMMAND: CommandRow = CommandRow {
+    name: "send",
+    about: "Write one record as a frame",
+    options: &[
+        SENT_FACILITY,
+        SENT_SEVERITY,
+        UP_TO,
+        SENT_FRAMING,
+        SENT_HOST,
+        SENT_APP,
+        SENT_PROC,
+        SENT_MSGID,
+        MICROS,
+        MESSAGE,
+    ],
+};
+
+/// `collect`.
+pub const COLLECT_COMMAND: CommandRow = CommandRow {
+    name: "collect",
+    about: "Receive records on 127.0.0.1 and write them as an archive",
+    options: &[TRANSPORT, PORT, COUNT, TRIM, LEGACY, ZONE, DIALECT],
+};
+
+/// `serve`.
+pub const SERVE_COMMAND: CommandRow = CommandRow {
+    name: "serve",
+    about: "Receive records from sockets into a store, until it is stopped",
+    options: &[
+        SERVED_DIR,
+        UDP,
+        COUNTED,
+        LF,
+        UNIX,
+        INHERITED,
+        CONNECTIONS,
+        PER_PEER,
+        IDLE,
+        COMMIT,
+        CHECKPOINT,
+        UNTIL_EOF,
+        TRIM,
+        LEGACY,
+        ZONE,
+        DIALECT,
+    ],
+};
+
+/// The commands, in the order of the help.
+pub const COMMANDS: [CommandRow; 18] = [
+    SHOW_COMMAND,
+    CHECK_COMMAND,
+    CONVERT_COMMAND,
+    ARCHIVE_COMMAND,
+    MERGE_COMMAND,
+    MIGRATE_COMMAND,
+    UNION_COMMAND,
+    COMMON_COMMAND,
+    MINUS_COMMAND,
+    DIFF_COMMAND,
+    SELECT_COMMAND,
+    DIGEST_COMMAND,
+    READ_COMMAND,
+    VERIFY_COMMAND,
+    COMPACT_COMMAND,
+    SEND_COMMAND,
+    COLLECT_COMMAND,
+    SERVE_COMMAND,
+];
