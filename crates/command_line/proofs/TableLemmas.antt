@@ -1,5 +1,5 @@
 -- Rows one after the other.
-use Rattle.std.proofs.Common.{◌≡◌, ◌∙◌, ℕ, ◌+◌, ◌<◌, List, [], ◌∷◌, ap, drop, get_or, length}
+use Rattle.std.proofs.Common.{◌≡◌, ℕ, ◌+◌, ◌<◌, List, ap, drop, get_or, length}
 use Rattle.std.proofs.lemmas.List.{drop_more}
 use Rattle.clap.specs.Simple.{App, with_rule, with_subcommand}
 use Rattle.command_line.specs.Tables.{app_by, rule_by, with_apps, with_rules}

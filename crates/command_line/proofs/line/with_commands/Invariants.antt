@@ -1,4 +1,4 @@
-use Rattle.std.proofs.Common.{◌≡◌, ℕ, drop, length}
+use Rattle.std.proofs.Common.{◌≡◌, drop}
 use Rattle.clap.specs.Words.{app_of}
 use Rattle.command_line.specs.Tables.{with_apps}
 use Rattle.command_line.proofs.line.with_commands.Given as goal

@@ -1,5 +1,5 @@
-use Rattle.std.proofs.Common.{◌∙◌, ap, ap₂, rules, sym, drop, ◌+◌}
-use Rattle.clap.specs.Words.{app_of, rule_of}
+use Rattle.std.proofs.Common.{◌∙◌, ap, sym, drop, ◌+◌}
+use Rattle.clap.specs.Words.{app_of}
 use Rattle.clap.specs.Simple.{with_rule}
 use Rattle.command_line.specs.Tables.{with_rules}
 use Rattle.command_line.proofs.TableLemmas.{next_rule}

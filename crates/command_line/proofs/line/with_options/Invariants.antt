@@ -1,4 +1,4 @@
-use Rattle.std.proofs.Common.{◌≡◌, false, ℕ, drop, length}
+use Rattle.std.proofs.Common.{◌≡◌, false, drop}
 use Rattle.clap.specs.Words.{app_of}
 use Rattle.clap.specs.declared.builder.command.Command.TheViews.{out-Command as fields_of}
 use Rattle.command_line.specs.Tables.{with_rules}
