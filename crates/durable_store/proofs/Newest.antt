@@ -1,6 +1,6 @@
 -- The newest journal is brought into memory, and then opened.
 use Rattle.std.proofs.Common.{◌≡◌, inl, inr, ℕ, List, [], sym, ap, subst, ◌∙◌}
-use Rattle.std.specs.Prelude.{◌↔◌, Some}
+use Rattle.std.specs.Prelude.{◌↔◌, IfSome, Option, Some}
 use Rattle.disk.specs.Calls.{IsUnchanged}
 use Rattle.disk.specs.States.{State}
 use Rattle.journal.specs.Batches.{batches_text, HasBatches}
@@ -18,6 +18,10 @@ use Rattle.durable_store.specs.Recovery.{Adds, IsRecovered}
 use Rattle.durable_store.proofs.Additions.{recovered}
 
 -- ---- it is read
+
+-- what is so of what was found
+pub at_some : {T : Type 0} (found : Option T) (x : T) (P : T → Type 0) → found ≡ Some x → IfSome found P → P x
+at_some found x P is some = subst (λ o. IfSome o P) is some
 
 -- a read shows one file as the newest journal
 one_shown : (state : State) (number n : ℕ) (octets others : List ℕ) → IsNewestShown state number octets
@@ -73,7 +77,7 @@ pub gives_before : (zero one : State) (number : ℕ) (text : List ℕ) → IsUnc
 gives_before zero one number text same (inl gives) = inl (gives_still zero one same number text gives)
 gives_before zero one number text same (inr none) =
     let back : IsUnchanged one zero = record { entries = λ name. sym (same.entries name); lost = sym same.lost } in
-    inr (none_still one zero back none.0, none.1)
+    inr (none_still one zero back none.0, none.1, none.2)
 
 pub opening_before : (zero one : State) (tells failed : Type 0) → (tells → IsUnchanged zero one) → (fault : StoreFault)
     → IsCause (opening_causes tells failed one) fault → IsCause (opening_causes tells failed zero) fault
