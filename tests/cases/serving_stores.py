@@ -10,8 +10,8 @@ from cases.rows import A, Y, entries, invalid
 from lib.loopback import HERE, kind_of
 from lib.reference import counted, framed
 from lib.server import SOON, any_port, numbered, spelled, until
-from lib.store_format import CLOSED, HEAD, JOURNAL, OLDER_CLOSED, SEAL, SEGMENT, files_of, held, is_named_right, open_batch
-from lib.store_format import seal_of
+from lib.store_format import CLOSED, HEAD, JOURNAL, OLDER_CLOSED, SEAL, SEGMENT, files_of, held, is_named_right
+from lib.store_format import open_batch, seal_of
 from lib.stores import Keeper, records
 
 ALL = [*any_port("udp"), *any_port("counted"), *any_port("lf")]

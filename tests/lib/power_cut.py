@@ -2,9 +2,9 @@
 
 The model: octets that were written since the last sync of their file may be there in part, in any order, or be any others,
 and the file may have any length that it had since; no other octet changes. An octet on the disk that was written over since
-is as it was or as it is: that of a disk is written whole, and a start refuses any other before a batch as damage. A name that was made, taken or removed since the
-last sync of the folder may be as it was before, each name on its own; under one whose file was given another name there may
-be anything.
+is as it was or as it is: a disk writes it whole, and before a batch a start takes any other for damage. A name that was made,
+taken or removed since the last sync of the folder may be as it was before, each name on its own; under one whose file was
+given another name there may be anything.
 """
 import re
 from collections import namedtuple
