@@ -4,7 +4,6 @@ use Rattle.std.specs.Prelude.{◌↔◌, IfSome, Option, Some}
 use Rattle.disk.specs.Calls.{IsUnchanged}
 use Rattle.disk.specs.States.{State}
 use Rattle.journal.specs.Batches.{batches_text, HasBatches}
-use Rattle.journal.specs.Journals.{IsSound}
 use Rattle.archive_text.specs.Entries.{Entry, Has}
 use Rattle.record_store.specs.Causes.{IsCause, opening_causes}
 use Rattle.record_store.specs.Holdings.{IsWholeJournal, JournalHas}

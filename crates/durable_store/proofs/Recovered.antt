@@ -4,7 +4,7 @@ use Rattle.std.proofs.Common.{refl, sym, ap, subst, ◌∙◌, append_assoc, ari
 use Rattle.std.specs.Prelude.{◌↔◌, ℤ}
 use Rattle.std.specs.Int.{to_le_bytes, w32}
 use Rattle.std.specs.List.{AllByRecursion}
-use Rattle.std.proofs.lemmas.List.{append-nil, take_at, drop_at}
+use Rattle.std.proofs.lemmas.List.{take_at, drop_at}
 use Rattle.journal.specs.Batches.{batches_text, BeginsWithBatch, HasBatches, IsBody, IsClosed, open_batch}
 use Rattle.journal.proofs.Batches.{sized_push, text-push}
 use Rattle.journal.proofs.Readings.{body_is}

@@ -1,4 +1,4 @@
-use Rattle.std.proofs.Common.{ℕ, List, subst, sym}
+use Rattle.std.proofs.Common.{subst, sym}
 use Rattle.record_store.specs.Shown.{IsNewestShown}
 use Rattle.durable_store.specs.Causes.{IsOpeningCause}
 use Rattle.durable_store.proofs.Newest.{at_some}
