@@ -9,7 +9,35 @@ from lib.reference import archive_read, canonical, counted_frames, entry_fault, 
 
 JOURNAL = re.compile(rb"journal\.(0|[1-9]\d*)")
 SEGMENT = re.compile(rb"(mixed|undated|\d{4}-\d\d-\d\d)\.([0-9a-f]{64})\.archive")
-OPEN, CLOSED, HEAD = 1, 0, 5
+OPEN, CLOSED, OLDER_CLOSED, HEAD, SEAL = 1, 254, 0, 5, 9
+POLYNOMIAL = 0x82F63B78  # of CRC-32C, the low bits first
+
+
+def remainder(octet):
+    for _ in range(8):
+        octet = octet >> 1 ^ POLYNOMIAL * (octet & 1)
+    return octet
+
+
+REMAINDERS = [remainder(octet) for octet in range(256)]
+
+
+def crc32c(octets):
+    register = 0xFFFFFFFF
+    for octet in octets:
+        register = register >> 8 ^ REMAINDERS[(register ^ octet) & 255]
+    return register ^ 0xFFFFFFFF
+
+
+def seal_of(text):
+    """What stands behind the entries of a batch."""
+    return b"#" + len(text).to_bytes(4, "little") + crc32c(text).to_bytes(4, "little")
+
+
+@lru_cache(maxsize=65_536)
+def is_sealed(body):
+    """Whether a body ends with its seal."""
+    return len(body) >= SEAL and body[-SEAL:] == seal_of(body[:-SEAL])
 
 
 def open_batch(body):
@@ -28,11 +56,39 @@ def bodies_of(journal):
     return bodies, at
 
 
+def first_batch(octets):
+    """The body whose length stands at the beginning, and what is behind it; None where it is not whole."""
+    end = HEAD - 1 + int.from_bytes(octets[:HEAD - 1], "little")
+    return (octets[HEAD - 1:end], octets[end:]) if HEAD - 1 <= len(octets) and end <= len(octets) else None
+
+
+def begins_sealed(octets):
+    """Whether a batch that is open, whole and sealed is at the beginning."""
+    first = first_batch(octets[1:])
+    return octets[:1] == bytes([OPEN]) and first is not None and is_sealed(first[0])
+
+
+def hides_batches(tail):
+    """Whether what is behind the batches of a journal is nothing that a crash leaves there."""
+    if len(tail) < 2:
+        return False
+    if tail[0] not in (CLOSED, OLDER_CLOSED):
+        return True
+    first = first_batch(tail[1:])
+    return first is not None and (tail[0] == OLDER_CLOSED and is_sealed(first[0]) or begins_sealed(first[1]))
+
+
+def of_entries(text):
+    """The records of a text, None where it is no sequence of entries."""
+    frames, fault = counted_frames(text)
+    return None if fault or any(entry_fault(frame, canonical) for frame in frames) else frozenset(frames)
+
+
 @lru_cache(maxsize=65_536)
 def of_batch(body):
-    """The records of a batch, None where it is no sequence of entries."""
-    frames, fault = counted_frames(body)
-    return None if fault or any(entry_fault(frame, canonical) for frame in frames) else frozenset(frames)
+    """The records of a batch, sealed or as older programs wrote it; None where it is damaged."""
+    found = of_entries(body[:-SEAL]) if is_sealed(body) else None
+    return of_entries(body) if found is None else found
 
 
 def day_of(record):
@@ -63,7 +119,8 @@ def held(files):
         journal, segment = JOURNAL.fullmatch(name), SEGMENT.fullmatch(name)
         parts = []
         if journal and is_number(journal.group(1)):
-            parts = [of_batch(body) for body in bodies_of(octets)[0]]
+            bodies, end = bodies_of(octets)
+            parts = [None] if hides_batches(octets[end:]) else [of_batch(body) for body in bodies]
         elif segment:
             parts = [of_segment(segment.group(1), octets) if is_named_right(name, octets) else None]
         if None in parts:

@@ -8,6 +8,7 @@ pub mod Creating
 pub mod Differing
 pub mod Drafted
 pub mod Folders
+pub mod Hiding
 pub mod Leavings
 pub mod Named
 pub mod Naming
@@ -18,6 +19,7 @@ pub mod Opened
 pub mod Placed
 pub mod Readings
 pub mod Remaining
+pub mod Sealed
 pub mod Showing
 pub mod Standing
 pub mod Successions

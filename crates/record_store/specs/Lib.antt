@@ -5,6 +5,7 @@ pub mod Keeping
 pub mod Names
 pub mod Puts
 pub mod Renewals
+pub mod Seals
 pub mod Segments
 pub mod Shown
 pub mod Stores

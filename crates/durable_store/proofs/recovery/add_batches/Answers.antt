@@ -1,8 +1,10 @@
+use Rattle.std.proofs.Common.{refl, rules}
 use Rattle.archive_pages.specs.Paged.{entries_in}
 use Rattle.durable_store.specs.Recovery.{Refutes}
 use Rattle.record_store.specs.Holdings.{IsReadable, IsWholeJournal}
+use Rattle.record_store.specs.Seals.{HidesBatches}
 use Rattle.durable_store.proofs.Recovered.{journal_begun, journal_more, journal_whole, shorter_rest}
-use Rattle.durable_store.proofs.Readable.{at_err, journal_read, next_readable, refutes_more}
+use Rattle.durable_store.proofs.Readable.{at_err, journal_read, next_readable, not_whole, refutes_more}
 use Rattle.durable_store.proofs.recovery.add_batches.Goals as goal
 
 pub batches-init : goal.batches-init
@@ -26,8 +28,16 @@ returns-clause-adds c =
 
 pub returns-clause-whole : goal.returns-clause-whole
 returns-clause-whole c =
+    let shows : ¬ (HidesBatches c.batches.rest.now) = search rules in
     journal_read (entries_in c.args.set.now) (entries_in c.batches.set) c.args.file.now c.batches.rest.now
-    c.batches.invariant c.in_default.ensures.none
+    c.batches.invariant c.in_default.ensures.none shows
+
+pub returns-then-hides_batches-clause-fault : goal.returns-then-hides_batches-clause-fault
+returns-then-hides_batches-clause-fault c = (
+  refl,
+  not_whole (entries_in c.args.set.now) (entries_in c.batches.set) c.args.file.now c.batches.rest.now
+      c.batches.invariant c.in_default.ensures.none (c.hides_batches.ensures.0 c.if-hides_batches.true),
+)
 
 pub returns-in_err-add_batch-clause-fault : goal.returns-in_err-add_batch-clause-fault
 returns-in_err-add_batch-clause-fault c =
