@@ -41,12 +41,12 @@ any_gate bodies body gate sized one = ⊎_elim
     (λ is_open. (
       bodies ++ body ∷ [],
       record {
-        tail = 0 ∷ [];
+        tail = 254 ∷ [];
         text =
             ap (λ (g : ℕ). batches_text bodies ++ g ∷ closed_batch body) is_open
-            ∙ sym (append_assoc (batches_text bodies) (open_batch body) (0 ∷ []))
-            ∙ sym (text-push bodies body (0 ∷ []));
-        closed = closed_octet 0 [] (λ is. absurd (cc is));
+            ∙ sym (append_assoc (batches_text bodies) (open_batch body) (254 ∷ []))
+            ∙ sym (text-push bodies body (254 ∷ []));
+        closed = closed_octet 254 [] (λ is. absurd (cc is));
         sized = sized_push bodies body sized one;
       },
       inr refl,

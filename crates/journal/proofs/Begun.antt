@@ -1,14 +1,14 @@
 -- An empty journal is being made: what a crash leaves under its name.
-use Rattle.std.proofs.Common.{◌≡◌, ℕ, ◌+◌, ◌≤◌, ◌⊎◌, inl, inr, Bool, true, false, if◌then◌else◌, List, [], ◌∷◌, ◌++◌}
-use Rattle.std.proofs.Common.{length, take, refl, sym, subst, ◌∙◌, ap, arith, max}
-use Rattle.std.specs.Prelude.{Option, None, Some, IsSomeAnd, IsTrue}
+use Rattle.std.proofs.Common.{◌≡◌, ℕ, ◌≤◌, ◌⊎◌, inl, inr, Bool, true, false, if◌then◌else◌, List, [], ◌∷◌, ◌++◌}
+use Rattle.std.proofs.Common.{length, take, refl, sym, subst, ◌∙◌, ap, arith}
+use Rattle.std.specs.Prelude.{Option, None, Some, IsSomeAnd}
 use Rattle.std.proofs.lemmas.List.{length-append, length-take}
 use Rattle.disk.specs.Files.{File, MayBecome, settled, appended, appended_in_part}
 use Rattle.disk.specs.Memory.{shown_now}
 use Rattle.disk.specs.States.{AnyMayBe, Entry, MayBe, NameMayLeave, State, kept, retired}
 use Rattle.disk.specs.Calls.{ChangesFile, CreatesFile, FailsAt, IsUnchanged, Loses, SettlesNames}
 use Rattle.disk.specs.declared.fault.DiskFault.{DiskFault}
-use Rattle.journal.specs.Batches.{HasBatches, IsBody, open_batch}
+use Rattle.journal.specs.Batches.{HasBatches, open_batch}
 use Rattle.journal.specs.Journals.{LeavesNoBatch, ShowsNoBatch}
 
 -- a file under the name, in place of what was there, that is at most one octet long whatever a crash leaves of it
@@ -104,22 +104,22 @@ changed old mid new name change file entry c short longest =
       longest = longest;
     }
 
-one_octet : (n : ℕ) → length {A = ℕ} (take n (0 ∷ [])) ≤ 1
-one_octet n = omega (arith, length-take {A = ℕ} n (0 ∷ []))
+one_octet : (n : ℕ) → length {A = ℕ} (take n (254 ∷ [])) ≤ 1
+one_octet n = omega (arith, length-take {A = ℕ} n (254 ∷ []))
 
 -- an octet is written
 pub octet_written : (old mid new : State) (name : List ℕ) → CreatesFile old mid name
-    → ChangesFile mid new name (appended (0 ∷ [])) → Young old new name
+    → ChangesFile mid new name (appended (254 ∷ [])) → Young old new name
 octet_written old mid new name made c =
-    changed old mid new name (appended (0 ∷ [])) (settled []) made.entry.here c (omega arith) (omega arith)
+    changed old mid new name (appended (254 ∷ [])) (settled []) made.entry.here c (omega arith) (omega arith)
 
 pub octet_failed : (old mid new : State) (name : List ℕ) (fault : DiskFault) → CreatesFile old mid name
-    → FailsAt mid new name fault ((n : ℕ) × ChangesFile mid new name (appended_in_part n (0 ∷ [])))
+    → FailsAt mid new name fault ((n : ℕ) × ChangesFile mid new name (appended_in_part n (254 ∷ [])))
     → AsWasOrYoung old new name
 octet_failed old mid new name fault made f =
     inr (elim f.done [
       | inl same ↦ still_young old mid new name (young_made old mid name made) (same.entries name)
-      | inr (n, c) ↦ changed old mid new name (appended_in_part n (0 ∷ [])) (settled []) made.entry.here c (one_octet n)
+      | inr (n, c) ↦ changed old mid new name (appended_in_part n (254 ∷ [])) (settled []) made.entry.here c (one_octet n)
           (omega arith)
     ])
 

@@ -151,12 +151,12 @@ module _ (name : List ℕ) (bodies : List (List ℕ)) (body : List ℕ) (gate : 
       (same_file old new fault fails ∙ at.entry) (opening octet)
 
   -- the file with the batch
-  pub committed_is : set staged (length (batches_text bodies)) 1 ≡ batches_text (bodies ++ body ∷ []) ++ 0 ∷ []
+  pub committed_is : set staged (length (batches_text bodies)) 1 ≡ batches_text (bodies ++ body ∷ []) ++ 254 ∷ []
   committed_is =
       ap (λ (l : List ℕ). set l (length (batches_text bodies)) 1) staged_is
       ∙ set_at (batches_text bodies) gate (closed_batch body) 1 (length (batches_text bodies)) refl
-      ∙ sym (append_assoc (batches_text bodies) (open_batch body) (0 ∷ []))
-      ∙ sym (text-push bodies body (0 ∷ []))
+      ∙ sym (append_assoc (batches_text bodies) (open_batch body) (254 ∷ []))
+      ∙ sym (text-push bodies body (254 ∷ []))
 
   pub end_is : length (batches_text bodies) + (5 + length body) ≡ length (batches_text (bodies ++ body ∷ []))
   end_is =
@@ -175,7 +175,7 @@ module _ (name : List ℕ) (bodies : List (List ℕ)) (body : List ℕ) (gate : 
   more_sized = sized_push bodies body sized one
 
   at_end : (state : State) → At state name (settled (set staged (length (batches_text bodies)) 1))
-      → At state name (settled (batches_text (bodies ++ body ∷ []) ++ 0 ∷ []))
+      → At state name (settled (batches_text (bodies ++ body ∷ []) ++ 254 ∷ []))
   at_end state at = record {
     entry = at.entry ∙ ap (λ (l : List ℕ). only_file (settled l)) committed_is;
     sound
@@ -186,14 +186,14 @@ module _ (name : List ℕ) (bodies : List (List ℕ)) (body : List ℕ) (gate : 
       → LeavesBatches state name (WithOrWithout bodies body)
   committed_leaves state at =
       let more = bodies ++ body ∷ [] in
-      let whole = batches_text more ++ 0 ∷ [] in
+      let whole = batches_text more ++ 254 ∷ [] in
       leaves state name (settled whole) (WithOrWithout bodies body) (at_end state at).entry (λ c may.
       let junk = drop (length whole) c in
-      let is : c ≡ batches_text more ++ 0 ∷ junk = front_stays (settled whole) whole c (omega arith) refl
-      (take_all (length whole) whole (omega arith)) may ∙ append_assoc (batches_text more) (0 ∷ []) junk in (
+      let is : c ≡ batches_text more ++ 254 ∷ junk = front_stays (settled whole) whole c (omega arith) refl
+      (take_all (length whole) whole (omega arith)) may ∙ append_assoc (batches_text more) (254 ∷ []) junk in (
         more,
         subst (λ (l : List ℕ). HasBatches l more) (sym is)
-            (before_closed more 0 junk (λ zero_is. absurd (cc zero_is)) more_sized),
+            (before_closed more 254 junk (λ zero_is. absurd (cc zero_is)) more_sized),
         inr refl,
       ))
 
@@ -201,7 +201,7 @@ module _ (name : List ℕ) (bodies : List (List ℕ)) (body : List ℕ) (gate : 
       → At state name (settled (set staged (length (batches_text bodies)) 1)) → journal.name ≡ name
       → journal.end ≡ length (batches_text bodies) + (5 + length body) → Stands journal state (bodies ++ body ∷ [])
   stands state journal at name_is end = record {
-    gate = 0;
+    gate = 254;
     closed = λ zero_is. absurd (cc zero_is);
     entry = ap state.entries name_is ∙ (at_end state at).entry;
     sound = at.sound;

@@ -24,7 +24,7 @@ now_changes old new name file change at changes =
 
 -- the four calls
 pub made : (s0 s1 s2 s3 s4 : State) (name : List ℕ) (journal : Journal) → s0.lost ≡ false → CreatesFile s0 s1 name
-    → ChangesFile s1 s2 name (appended (0 ∷ []))
+    → ChangesFile s1 s2 name (appended (254 ∷ []))
     → ChangesFile s2 s3 name (λ f. if s2.lost then f else settled f.shown) → SettlesNames s3 s4 → journal.name ≡ name
     → journal.end ≡ 0 → Stands journal s4 []
 made s0 s1 s2 s3 s4 name journal sound creates appends syncs settles name_is end_is =
@@ -33,13 +33,13 @@ made s0 s1 s2 s3 s4 name journal sound creates appends syncs settles name_is end
       sound
           = creates.entry.lost ∙ sound;
     } in
-    let two = now_changes s1 s2 name (settled []) (appended (0 ∷ [])) one appends in
-    let three = now_changes s2 s3 name (appended (0 ∷ []) (settled [])) (λ f. if s2.lost then f else settled f.shown)
+    let two = now_changes s1 s2 name (settled []) (appended (254 ∷ [])) one appends in
+    let three = now_changes s2 s3 name (appended (254 ∷ []) (settled [])) (λ f. if s2.lost then f else settled f.shown)
     two syncs in
-    let shown : (s3.entries name).now ≡ Some (settled (0 ∷ [])) =
-    three.now ∙ ap (λ (b : Bool). Some (if b then appended (0 ∷ []) (settled []) else settled (0 ∷ []))) two.sound in
+    let shown : (s3.entries name).now ≡ Some (settled (254 ∷ [])) =
+    three.now ∙ ap (λ (b : Bool). Some (if b then appended (254 ∷ []) (settled []) else settled (254 ∷ []))) two.sound in
     record {
-      gate = 0;
+      gate = 254;
       closed = λ zero_is. absurd (cc zero_is);
       entry =
           ap s4.entries name_is ∙ settles.entries name

@@ -1,11 +1,13 @@
 -- The calls of an opening, on the states of a disk.
 use Rattle.std.proofs.Common.{◌≡◌, ◌≢◌, ⊎_elim, ℕ, ◌+◌, ◌<◌, ◌≤◌, List, [], ◌∷◌, ◌++◌, length, get_or, take, drop, set}
 use Rattle.std.proofs.Common.{if◌then◌else◌, refl, sym, ◌∙◌, ap, subst, arith, append_assoc, length-append, length-drop}
+use Rattle.std.specs.Prelude.{Some}
 use Rattle.std.specs.Int.{w32, to_le_bytes}
 use Rattle.std.proofs.lemmas.Bool.{cases_eq}
 use Rattle.std.proofs.lemmas.List.{length-take}
 use Rattle.std.proofs.lemmas.List.{append-nil, take_all, take_at, drop_at, drop_all, drop_more, set_at}
 use Rattle.disk.specs.Files.{File, MayBecome, settled, appended, appended_in_part, overwritten, cut_to}
+use Rattle.disk.specs.Memory.{shown_now}
 use Rattle.disk.specs.States.{State}
 use Rattle.disk.specs.Calls.{ChangesFile, FailsAt, IsUnchanged, Loses}
 use Rattle.disk.specs.declared.fault.DiskFault.{DiskFault}
@@ -84,36 +86,36 @@ module _ (old new : State) (name file : List ℕ) (bodies : List (List ℕ)) (en
         sized = ends.sized;
       }
 
-  pub append_closes : end ≡ length file → ChangesFile old new name (appended (0 ∷ [])) → IsClosing new name bodies
+  pub append_closes : end ≡ length file → ChangesFile old new name (appended (254 ∷ [])) → IsClosing new name bodies
   append_closes all changes =
-      let next = after_change old new name (settled file) (appended (0 ∷ [])) start changes in
+      let next = after_change old new name (settled file) (appended (254 ∷ [])) start changes in
       record {
-        file = appended (0 ∷ []) (settled file);
+        file = appended (254 ∷ []) (settled file);
         entry = next.entry;
         sound = next.sound;
-        gate = 0;
+        gate = 254;
         behind = [];
         shut = λ zero_is. absurd (cc zero_is);
-        shown = ap (λ (l : List ℕ). l ++ 0 ∷ []) (none_behind all);
-        leaves = one_more (appended (0 ∷ []) (settled file)) (none_behind all) refl refl (omega arith)
-            (omega (arith, length-append file (0 ∷ [])))
-            (take_at file (0 ∷ []) (length file) refl);
+        shown = ap (λ (l : List ℕ). l ++ 254 ∷ []) (none_behind all);
+        leaves = one_more (appended (254 ∷ []) (settled file)) (none_behind all) refl refl (omega arith)
+            (omega (arith, length-append file (254 ∷ [])))
+            (take_at file (254 ∷ []) (length file) refl);
         sized = ends.sized;
       }
 
   pub append_fails : end ≡ length file → (fault : DiskFault)
-      → FailsAt old new name fault ((n : ℕ) × ChangesFile old new name (appended_in_part n (0 ∷ [])))
+      → FailsAt old new name fault ((n : ℕ) × ChangesFile old new name (appended_in_part n (254 ∷ [])))
       → LeavesThese new name bodies
   append_fails all fault fails = ⊎_elim
       (λ same. unchanged_leaves old new name file bodies at same has)
       (λ part.
-      let f = appended_in_part part.0 (0 ∷ []) (settled file) in
-      let next = after_change old new name (settled file) (appended_in_part part.0 (0 ∷ [])) start part.1 in
+      let f = appended_in_part part.0 (254 ∷ []) (settled file) in
+      let next = after_change old new name (settled file) (appended_in_part part.0 (254 ∷ [])) start part.1 in
       leaves new name f (λ found. found ≡ bodies) next.entry (λ c may. (
         bodies,
         one_more f (none_behind all) refl refl (omega arith)
-            (omega (arith, length-append file (take part.0 (0 ∷ [])), length-take {A = ℕ} part.0 (0 ∷ [])))
-            (take_at file (take part.0 (0 ∷ [])) (length file) refl) c may,
+            (omega (arith, length-append file (take part.0 (254 ∷ [])), length-take {A = ℕ} part.0 (254 ∷ [])))
+            (take_at file (take part.0 (254 ∷ [])) (length file) refl) c may,
         refl,
       )))
       fails.done
@@ -153,20 +155,20 @@ module _ (old new : State) (name file : List ℕ) (bodies : List (List ℕ)) (en
         sized = ends.sized;
       }
 
-  pub overwrite_closes : end < length file → get_or file end 0 ≡ 1 → ChangesFile old new name (overwritten end 0)
+  pub overwrite_closes : end < length file → get_or file end 0 ≡ 1 → ChangesFile old new name (overwritten end 254)
       → IsClosing new name bodies
   overwrite_closes some open_gate changes =
-      let next = after_change old new name (settled file) (overwritten end 0) start changes in
+      let next = after_change old new name (settled file) (overwritten end 254) start changes in
       record {
-        file = overwritten end 0 (settled file);
+        file = overwritten end 254 (settled file);
         entry = next.entry;
         sound = next.sound;
-        gate = 0;
+        gate = 254;
         behind = drop (end + 1) file;
         shut = λ zero_is. absurd (cc zero_is);
-        shown = ap (λ (l : List ℕ). set l end 0) (at_gate some) ∙ set_at (batches_text bodies) (get_or file end 0)
-            (drop (end + 1) file) 0 end (sym ends.end_is);
-        leaves = any_octet some open_gate 0;
+        shown = ap (λ (l : List ℕ). set l end 254) (at_gate some) ∙ set_at (batches_text bodies) (get_or file end 0)
+            (drop (end + 1) file) 254 end (sym ends.end_is);
+        leaves = any_octet some open_gate 254;
         sized = ends.sized;
       }
 
@@ -312,3 +314,72 @@ ends_here file octets bodies end is has_bodies found =
 pub still_there : (old new : State) (name file : List ℕ) → IsOnDisk old name file → IsUnchanged old new
     → IsOnDisk new name file
 still_there old new name file at same = record { entry = same.entries name ∙ at.entry; sound = same.lost ∙ at.sound }
+
+-- a read shows what is on the disk
+pub shown_there : (state : State) (name file : List ℕ) → IsOnDisk state name file
+    → shown_now (state.entries name) ≡ Some file
+shown_there state name file at = ap shown_now at.entry
+
+-- ---- another octet is put behind the batches, where nothing is behind it
+
+module _ (old one two : State) (name : List ℕ) (bodies : List (List ℕ)) (rest : IsAtRest old name bodies) (octet : ℕ)
+  where
+    abbrev resting_file : File
+    resting_file = settled (batches_text bodies ++ rest.gate ∷ [])
+
+    abbrev put_over : File → File
+    put_over = overwritten (length (batches_text bodies)) octet
+
+    rested : At old name (settled (batches_text bodies ++ rest.gate ∷ []))
+    rested = record { entry = rest.file.entry; sound = rest.file.sound }
+
+    put_leaves : (shown : ℕ) (c : List ℕ)
+        → MayBecome (overwritten (length (batches_text bodies)) shown (settled (batches_text bodies ++ rest.gate ∷ []))) c
+        → HasBatches c bodies
+    put_leaves shown c may = record {
+      tail = get_or c (length (batches_text bodies)) 0 ∷ [];
+      text = all_but_one (batches_text bodies) rest.gate shown [] c may;
+      closed = short_closed (get_or c (length (batches_text bodies)) 0 ∷ []) (omega arith);
+      sized = rest.sized;
+    }
+
+    pub put_fails : (fault : DiskFault)
+        → FailsAt old one name fault
+        ((shown : ℕ) × ChangesFile old one name (overwritten (length (batches_text bodies)) shown))
+        → LeavesThese one name bodies
+    put_fails fault fails = ⊎_elim
+        (λ same. unchanged_leaves old one name (batches_text bodies ++ rest.gate ∷ []) bodies rest.file same
+        (before_closed bodies rest.gate [] rest.shut rest.sized))
+        (λ part.
+        let next = after_change old one name resting_file (overwritten (length (batches_text bodies)) part.0) rested
+        part.1 in
+        leaves one name (overwritten (length (batches_text bodies)) part.0 resting_file) (λ found. found ≡ bodies)
+        next.entry (λ c may. (bodies, put_leaves part.0 c may, refl)))
+        fails.done
+
+    module _ (puts : ChangesFile old one name (overwritten (length (batches_text bodies)) octet)) where
+      put_there : At one name (overwritten (length (batches_text bodies)) octet
+          (settled (batches_text bodies ++ rest.gate ∷ [])))
+      put_there = after_change old one name resting_file put_over rested puts
+
+      pub put_sync_fails : (fault : DiskFault) → FailsAt one two name fault (Loses one two)
+          → LeavesThese two name bodies
+      put_sync_fails fault fails =
+          let same = ⊎_elim (λ same. same.entries name) (λ loses. loses.entries name) fails.done in
+          leaves two name (put_over resting_file) (λ found. found ≡ bodies) (same ∙ put_there.entry)
+          (λ c may. (bodies, put_leaves octet c may, refl))
+
+      pub put_rests : octet ≢ 1 → ChangesFile one two name (λ f. if one.lost then f else settled f.shown)
+          → IsAtRest two name bodies
+      put_rests shut syncs =
+          let last = after_sync one two name (put_over resting_file) put_there syncs in
+          let shown = set_at (batches_text bodies) rest.gate [] octet (length (batches_text bodies)) refl in
+          record {
+            gate = octet;
+            shut = shut;
+            file = record {
+              entry = last.entry ∙ ap (λ (l : List ℕ). only_file (settled l)) shown;
+              sound = last.sound;
+            };
+            sized = rest.sized;
+          }

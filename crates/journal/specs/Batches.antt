@@ -7,7 +7,7 @@ use Rattle.std.specs.List.{AllByRecursion}
 -- and the
 -- octet that the next batch is opened by, closed
 abbrev pub closed_batch : List ℕ → List ℕ
-closed_batch body = to_le_bytes w32 (length body) ++ body ++ 0 ∷ []
+closed_batch body = to_le_bytes w32 (length body) ++ body ++ 254 ∷ []
 
 -- a batch that is open
 abbrev pub open_batch : List ℕ → List ℕ

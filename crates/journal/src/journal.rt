@@ -16,7 +16,7 @@ pub const BODY_MAX: usize = u32::MAX as usize;
 // what opens a batch, and what stands in its place before
 const OPEN: u8 = 1;
 
-const CLOSED: u8 = 0;
+const CLOSED: u8 = 254;
 
 // the octets before those of a batch
 const HEAD: u64 = 5;

@@ -1,7 +1,7 @@
 //! A journal: batches of octets in one file, each of which is there whole after a crash or not at all.
 //!
 //! The file is a row of batches. A batch begins with an octet that is 1 if it is open, and any
-//! other if it is closed; then come the number of its octets (4 octets, the low ones first) and its
+//! other if it is closed (254; older programs wrote 0); then come the number of its octets (4 octets, the low ones first) and its
 //! octets. The first batch that is closed or cut short, and all behind it, stand for nothing, so a
 //! reader may run beside the writer.
 //!
@@ -21,4 +21,4 @@ pub use fault::JournalFault;
 pub use journal::{BODY_MAX, Journal, LENGTH_MAX};
 pub use law::{after_a_crash, one_reading};
 pub use opening::{open, settle};
-pub use reading::{OPENED_MAX, batch_len};
+pub use reading::{OPENED_MAX, batch_len, read_octets};

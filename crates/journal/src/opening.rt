@@ -8,7 +8,7 @@ ghost use Rattle.journal.specs.Journals.{EndsAt, IsAtRest, IsClosing, IsOnDisk, 
 ghost use Rattle.journal.specs.Journals.{IsSound, KeepsOthers, LeavesThese, OpensOn, SettlesOthers, Shows};
 ghost use Rattle.journal.specs.Journals.{ShowsTheSame, name_of};
 
-use crate::reading::{end_of_batches, read_all};
+use crate::reading::{end_of_batches, read_octets};
 use crate::{Journal, JournalFault};
 use disk::{Disk, DiskFault, FileName};
 use std::alloc::Global;
@@ -16,7 +16,7 @@ use std::alloc::Global;
 // what opens a batch, and what stands in its place before
 const OPEN: u8 = 1;
 
-const CLOSED: u8 = 0;
+const CLOSED: u8 = 254;
 
 // Puts a closed octet behind the batches, if there is none.
 fn shut<D: Disk>(disk: &mut D, name: &FileName, file: &[u8], end: usize) -> Result<(), DiskFault>
@@ -66,6 +66,31 @@ fn cut_behind<D: Disk>(disk: &mut D, name: &FileName, end: u64) -> Result<(), Di
     // The closed octet has to be on the disk first: a crash in the cut may leave anything behind it.
     disk.sync(name)?;
     disk.cut(name, end + 1)?;
+    disk.sync(name)?;
+    Ok(())
+}
+
+// Puts the closed octet of today in place of another one: older programs wrote 0.
+fn renew<D: Disk>(disk: &mut D, name: &FileName, file: &[u8], end: usize) -> Result<(), DiskFault>
+    requires { end ≤ length file.now }
+    ensures at_rest { OnOk result (D.tells disk.new → (bodies : List (List ℕ))
+        → IsAtRest (D.state disk.old) name.now bodies → end ≡ length (batches_text bodies)
+        → IsAtRest (D.state disk.new) name.now bodies) }
+    ensures leaves { D.tells disk.new → (bodies : List (List ℕ))
+        → IsAtRest (D.state disk.old) name.now bodies → end ≡ length (batches_text bodies)
+        → LeavesThese (D.state disk.new) name.now bodies }
+    ensures others { D.tells disk.new → KeepsOthers (D.state disk.old) (D.state disk.new) name.now }
+    ensures told { D.tells disk.new → D.tells disk.old }
+    ensures failed { IsErrOf result DiskFault.Failed → D.has_failed disk.new }
+    ensures full { IsErrOf result DiskFault.Full → D.has_failed disk.new }
+    ensures missing { D.tells disk.new → IsErrOf result DiskFault.Missing
+        → IsNone ((D.state disk.old).entries name.now).now }
+    ensures not_exists { D.tells disk.new → ¬ (IsErrOf result DiskFault.Exists) }
+{
+    if end == file.len() || file[end] == OPEN || file[end] == CLOSED {
+        return Ok(());
+    }
+    disk.overwrite(name, end as u64, CLOSED)?;
     disk.sync(name)?;
     Ok(())
 }
@@ -131,10 +156,11 @@ pub fn open<D: Disk>(
     ensures too_long { D.tells disk.new → IsErrOf result JournalFault.TooLong → (file : List ℕ)
         → IsOnDisk (D.state disk.old) name file → 2 ^ 40 ≤ length file }
 {
-    let mut file = read_all(alloc, disk, &name)?;
+    let mut file = read_octets(alloc, disk, &name)?;
     let end = end_of_batches(&file);
     shut(disk, &name, &file, end)?;
     cut_behind(disk, &name, end as u64)?;
+    renew(disk, &name, &file, end)?;
     file.truncate(end);
     let journal = Journal {
         name,

@@ -1,8 +1,9 @@
 //! The batches of a journal's file.
-ghost use Rattle.std.specs.Prelude.{◌≡◌, ◌≤◌, ◌^◌, ◌++◌, length, List, ℕ, IfNone, IfOk, IfSome, IsErrOf, IsNone};
+ghost use Rattle.std.specs.Prelude.{◌≡◌, ◌≤◌, ◌^◌, ◌++◌, length, List, ℕ, IfNone, IfOk, IfSome, IsErrOf, IsNone, Some};
 ghost use Rattle.disk.specs.Calls.{IsUnchanged};
+ghost use Rattle.disk.specs.Memory.{shown_now};
 ghost use Rattle.journal.specs.Batches.{BeginsWithBatch, IsClosed};
-ghost use Rattle.journal.specs.Journals.{EndsAt, IsOnDisk};
+ghost use Rattle.journal.specs.Journals.{EndsAt, IsSound};
 
 use crate::JournalFault;
 use disk::{Disk, DiskFault, FileName};
@@ -48,14 +49,16 @@ pub(crate) fn end_of_batches(file: &[u8]) -> usize
     end
 }
 
-// Reads a file.
-pub(crate) fn read_all<D: Disk>(
+/// Reads the file of a journal. It changes nothing, and fails with the disk's fault, for lack of
+/// memory or if the file is longer than any journal that is opened.
+pub fn read_octets<D: Disk>(
     alloc: Global,
     disk: &mut D,
     name: &FileName,
 ) -> Result<Vec<u8>, JournalFault>
-    ensures octets { IfOk result (λ v. D.tells disk.new → (file : List ℕ)
-        → IsOnDisk (D.state disk.old) name.now file → v.items ≡ file) }
+    ensures octets { IfOk result (λ v. D.tells disk.new → IsSound (D.state disk.old)
+        → (file : List ℕ) → shown_now ((D.state disk.old).entries name.now) ≡ Some file
+        → v.items ≡ file) }
     ensures same { D.tells disk.new → IsUnchanged (D.state disk.old) (D.state disk.new) }
     ensures told { D.tells disk.new → D.tells disk.old }
     ensures failed { IsErrOf result (JournalFault.Disk DiskFault.Failed) → D.has_failed disk.new }
@@ -63,8 +66,9 @@ pub(crate) fn read_all<D: Disk>(
     ensures missing { D.tells disk.new → IsErrOf result (JournalFault.Disk DiskFault.Missing)
         → IsNone ((D.state disk.old).entries name.now).now }
     ensures not_exists { D.tells disk.new → ¬ (IsErrOf result (JournalFault.Disk DiskFault.Exists)) }
-    ensures too_long { D.tells disk.new → IsErrOf result JournalFault.TooLong → (file : List ℕ)
-        → IsOnDisk (D.state disk.old) name.now file → 2 ^ 40 ≤ length file }
+    ensures too_long { D.tells disk.new → IsErrOf result JournalFault.TooLong
+        → IsSound (D.state disk.old) → (file : List ℕ)
+        → shown_now ((D.state disk.old).entries name.now) ≡ Some file → 2 ^ 40 ≤ length file }
 {
     let mut octets = Vec::new(alloc);
     let mut piece = [0u8; PIECE];

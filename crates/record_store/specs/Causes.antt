@@ -1,5 +1,5 @@
 -- Why a call on a store fails.
-use Rattle.std.specs.Prelude.{◌≡◌, ◌≢◌, ◌≤◌, ◌⊎◌, ℕ, ◌^◌, List, None, Some, length}
+use Rattle.std.specs.Prelude.{◌≡◌, ◌≢◌, ◌≤◌, ◌⊎◌, ℕ, ◌+◌, ◌^◌, List, None, Some, length}
 use Rattle.disk.specs.Memory.{shown_now}
 use Rattle.disk.specs.States.{State}
 use Rattle.disk.specs.declared.fault.DiskFault.{DiskFault}
@@ -113,12 +113,13 @@ opening_causes tells failed state = record {
   long = tells → IsSound state → ShowsTooLong state;
 }
 
--- of a commit: nor for a store that stands; a journal of 2 ^ 62 octets and a batch of 2 ^ 32 are full
+-- of a commit: nor for a store that stands; a journal of 2 ^ 62 octets and a batch of 2 ^ 32, its seal of 9 among them,
+-- are full
 abbrev pub commit_causes : Type 0 → Type 0 → RecordStore → State → Causes
 commit_causes tells failed store state = record {
   broken = IsBroken store;
   failed = failed;
-  full = failed ⊎ ((2 ^ 62 ≤ end_of store.journal) ⊎ (2 ^ 32 ≤ length store.batch.items));
+  full = failed ⊎ ((2 ^ 62 ≤ end_of store.journal) ⊎ (2 ^ 32 ≤ length store.batch.items + 9));
   other = tells → (sets : Sets) → ¬ (Stands store state sets);
   long = ⊥;
 }

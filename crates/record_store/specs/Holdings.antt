@@ -1,5 +1,5 @@
 -- What a folder holds.
-use Rattle.std.specs.Prelude.{◌≡◌, ◌⊎◌, ℕ, ◌≤◌, List, [], ◌∷◌, Option, None, Some, codes, length}
+use Rattle.std.specs.Prelude.{◌≡◌, ◌⊎◌, ℕ, ◌≤◌, List, [], ◌∷◌, ◌++◌, Option, None, Some, codes, length}
 use Rattle.std.specs.List.{AllByRecursion}
 use Rattle.disk.specs.States.{Files}
 use Rattle.journal.specs.Batches.{HasBatches}
@@ -9,22 +9,32 @@ use Rattle.archive_text.specs.declared.limits.TheConstants.{ENTRY_MAX}
 use Rattle.archive_digest.specs.Periods.{IsIn}
 use Rattle.archive_digest.specs.declared.period.Period.TheVariants.{Day}
 use Rattle.record_store.specs.Names.{IsJournal, IsSegment}
+use Rattle.record_store.specs.Seals.{HidesBatches, Seals}
 
--- these entries, one behind the other as they came: the octets of a batch
+-- these entries, one behind the other as they came
+pub record AreEntries (es : List Entry) (text : List ℕ) : Type 0 where
+  pub entries : AllByRecursion IsEntry es
+  pub fits : AllByRecursion (λ e. length e.octets ≤ ENTRY_MAX) es
+  pub text_is : text ≡ text_of es
+
+-- the octets of a batch: these entries, and behind them their seal, or nothing, as older programs wrote it
 pub record IsBatch (es : List Entry) (body : List ℕ) : Type 0 where
   pub entries : AllByRecursion IsEntry es
   pub fits : AllByRecursion (λ e. length e.octets ≤ ENTRY_MAX) es
-  pub text : body ≡ text_of es
+  pub behind : List ℕ
+  pub text : body ≡ text_of es ++ behind
+  pub seal : Seals (text_of es) behind
 
 -- octets are those of some batch
 abbrev pub IsReadable : List ℕ → Type 0
 IsReadable body = (es : List Entry) × IsBatch es body
 
--- each batch of a journal's file is one of entries
+-- each batch of a journal's file is one of entries, and nothing behind them hides others
 pub record IsWholeJournal (file : List ℕ) : Type 0 where
   pub bodies : List (List ℕ)
   pub batches : HasBatches file bodies
   pub readable : AllByRecursion IsReadable bodies
+  pub nothing_hidden : ¬ (HidesBatches batches.tail)
 
 -- the entry is one of a batch
 pub record BatchHas (body : List ℕ) (e : Entry) : Type 0 where

@@ -4,6 +4,7 @@ pub mod Holdings
 pub mod Keeping
 pub mod Names
 pub mod Puts
+pub mod Seals
 pub mod Segments
 pub mod Shown
 pub mod Stores

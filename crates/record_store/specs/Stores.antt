@@ -7,7 +7,7 @@ use Rattle.archive_text.specs.Entries.{Entry, Has}
 use Rattle.archive_text.specs.Faults.{IsEntryFault}
 use Rattle.archive_text.specs.declared.limits.TheConstants.{ENTRY_MAX}
 use Rattle.record_store.specs.Crashes.{Keeps, resting}
-use Rattle.record_store.specs.Holdings.{BatchesHave, IsBatch}
+use Rattle.record_store.specs.Holdings.{AreEntries, BatchesHave}
 use Rattle.record_store.specs.Names.{journal_name}
 use Rattle.record_store.specs.Shown.{ShowsWithin}
 use Rattle.record_store.specs.declared.fault.AppendFault.{AppendFault}
@@ -102,7 +102,7 @@ pub record IsReady (store : RecordStore) (state : State) (since : List Entry) : 
 -- where none of the failed calls was a sync, what a read shows in the newest journal came since the last checkpoint.
 pub record Stands (store : RecordStore) (state : State) (sets : Sets) : Type 0 where
   pub keeps : Keeps state sets.committed sets.received
-  pub batch : IsBatch sets.waiting store.batch.items
+  pub batch : AreEntries sets.waiting store.batch.items
   pub waits : AreAmong sets.waiting sets.since
   pub within : AreAmong sets.since sets.received
   pub ready : store.broken ≡ false → IsReady store state sets.since

@@ -13,19 +13,23 @@
 mod appending;
 mod batch;
 mod fault;
+mod journal_damage;
 mod keeping;
 mod law;
 mod names;
 mod opening;
 mod putting;
+mod seals;
 mod segment;
 mod store;
 mod turning;
 
 pub use fault::{AppendFault, StoreFault};
+pub use journal_damage::JournalDamage;
 pub use keeping::KeepFault;
 pub use law::{after_a_crash, after_a_restart};
 pub use opening::open;
 pub use putting::put;
+pub use seals::{has_entry, hides_batches, seals};
 pub use segment::{SegmentDraft, SegmentFault};
 pub use store::RecordStore;

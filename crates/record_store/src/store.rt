@@ -12,6 +12,7 @@ ghost use Rattle.record_store.specs.Stores.{all_committed, batch_of, begun, numb
 use crate::batch::put_entry;
 use crate::fault::{AppendFault, StoreFault};
 use crate::names::name_of_journal;
+use crate::seals::put_seal;
 use archive_text::{ENTRY_MAX, entry_of_octets};
 use disk::Disk;
 use journal::{Journal, JournalFault};
@@ -121,12 +122,18 @@ impl RecordStore {
         if self.batch.len() == 0 {
             return Ok(());
         }
+        let len = self.batch.len();
+        if put_seal(&mut self.batch).is_err() {
+            self.broken = true;
+            return Err(StoreFault::Memory);
+        }
         match self.journal.commit(alloc, disk, &self.batch) {
             Ok(()) => {
                 self.batch.clear();
                 Ok(())
             }
             Err(fault) => {
+                self.batch.truncate(len);
                 self.broken = true;
                 Err(StoreFault::Journal {
                     number: self.number,
