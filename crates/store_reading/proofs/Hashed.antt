@@ -128,11 +128,12 @@ damaged_segment day name file Memory told = tt
 -- what the comparison of the digest says of the segment
 pub segment_checked : (day name : List ℕ) (d e : InputState) (hex : List ℕ) (r : Result (Unit {0}) CheckFault)
     → IsHashed day d e hex → OnOk r (IsNamedBy day name hex) → OnOk r (OfLeft d (IsWholeSegment day name))
-segment_checked day name d e hex (Ok x) h named file left = whole_named day name d e hex file h left named
+segment_checked day name d e hex (Ok x) h named = λ file left. whole_named day name d e hex file h left named
 segment_checked day name d e hex (Err fault) h named = tt
 
 pub segment_refused : (day name : List ℕ) (d e : InputState) (hex : List ℕ) (r : Result (Unit {0}) CheckFault)
     → IsHashed day d e hex → IfErr r (λ fault. Tells fault (IsOtherDigest day name hex))
     → IfErr r (λ fault. OfLeft d (λ file. Tells fault (IsDamagedSegment day name file)))
 segment_refused day name d e hex (Ok x) h told = tt
-segment_refused day name d e hex (Err fault) h told file left = other_digest day name d e hex file h left fault told
+segment_refused day name d e hex (Err fault) h told = λ file left.
+    other_digest day name d e hex file h left fault told

@@ -34,7 +34,7 @@ pub returns-in-Ok-clause-whole : goal.returns-in-Ok-clause-whole
 returns-in-Ok-clause-whole g c t =
     let d = g.F.File.Input.state c.in_ok-file.file in
     opened_mixed (g.F.Folder.files c.args.folder.now) c.args.name.now d (c.in_ok-file.ensures.opened t)
-    (subst (λ (n : List ℕ). OfLeft d (IsWholeSegment (codes "mixed") n)) c.as_octets-add_segment.ensures.value
+    (subst (λ (n : List ℕ). OfLeft d (IsWholeSegment (codes "mixed") n)) c.as_octets-2.ensures.value
     c.in-Ok.ensures.whole)
 
 pub returns-clause-cause : goal.returns-clause-cause
@@ -46,5 +46,5 @@ returns-clause-cause g c =
     c.args.name.now c.in_ok-copy-in-Err.field-0 (g.F.File.Input.state c.in_ok-file.file) c.in-Err.fault c.of.result
     (refl, segment) c.in_ok-file.ensures.opened
     (subst (λ (n : List ℕ). OfLeft (g.F.File.Input.state c.in_ok-file.file) (λ file.
-    Tells c.in-Err.fault (IsDamagedSegment (codes "mixed") n file))) c.as_octets-add_segment.ensures.value
+    Tells c.in-Err.fault (IsDamagedSegment (codes "mixed") n file))) c.as_octets-2.ensures.value
     c.in-Err.ensures.damaged) c.in_ok-copy-in-Err.ensures c.of.ensures
