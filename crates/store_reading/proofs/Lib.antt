@@ -6,6 +6,7 @@ pub mod DaysRead
 pub mod Faulted
 pub mod Hashed
 pub mod Held
+pub mod Hidden
 pub mod Joined
 pub mod Mixed
 pub mod NameOrders
@@ -16,6 +17,7 @@ pub mod Ranged
 pub mod Readable
 pub mod SameSets
 pub mod SegmentNames
+pub mod Sealed
 pub mod Segments
 pub mod Whole
 pub mod Written
