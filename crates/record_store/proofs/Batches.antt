@@ -6,62 +6,66 @@ use Rattle.std.specs.Prelude.{Some}
 use Rattle.journal.specs.Batches.{HasBatches, IsBody, batches_text}
 use Rattle.journal.proofs.Readings.{one_reading}
 use Rattle.archive_text.specs.Entries.{Entry, Has, IsEntry}
-use Rattle.archive_text.specs.Text.{BeginsWithEntry, entry_text, text_of}
+use Rattle.archive_text.specs.Text.{entry_text, text_of}
 use Rattle.archive_text.specs.declared.limits.TheConstants.{ENTRY_MAX}
 use Rattle.archive_text.proofs.Members.{all_append}
-use Rattle.archive_text.proofs.Texts.{entry_carries, no_text, one_beginning, text_push}
-use Rattle.record_store.specs.Holdings.{BatchHas, BatchesHave, HeldAt, IsBatch, JournalHas}
+use Rattle.archive_text.proofs.Texts.{no_text, one_beginning, text_push}
+use Rattle.record_store.specs.Holdings.{AreEntries, BatchHas, BatchesHave, HeldAt, IsBatch, JournalHas}
 use Rattle.record_store.specs.Names.{IsJournal}
+use Rattle.record_store.specs.Seals.{HasMore}
 use Rattle.record_store.proofs.Named.{not_both}
 use Rattle.record_store.proofs.Readings.{none_short}
+use Rattle.record_store.proofs.Sealed.{Fits, begins_all, entries_more, plain_batch, seal_ends}
 
 -- ---- a batch is of one list of entries
-
-abbrev Fits : Entry → Type 0
-Fits e = length e.octets ≤ ENTRY_MAX
-
-begins : (e : Entry) (rest : List ℕ) → IsEntry e → Fits e → BeginsWithEntry ENTRY_MAX (entry_text e ++ rest) e rest
-begins e rest entry fits =
-    record { entry = entry; fits = fits; carries = entry_carries ENTRY_MAX e (omega arith) entry fits; parts = refl }
 
 none_of : (es : List Entry) → [] ≡ text_of es → [] ≡ es
 none_of es is = sym (no_text es [] (is ∙ sym (append-nil (text_of es))))
 
-same_entries : (es fs : List Entry) → AllByRecursion IsEntry es → AllByRecursion Fits es → AllByRecursion IsEntry fs
-    → AllByRecursion Fits fs → text_of es ≡ text_of fs → es ≡ fs
-same_entries [] fs es_are es_fit fs_are fs_fit same = none_of fs same
-same_entries (e ∷ es) [] es_are es_fit fs_are fs_fit same = sym (none_of (e ∷ es) (sym same))
-same_entries (e ∷ es) (f ∷ fs) es_are es_fit fs_are fs_fit same =
-    let second : BeginsWithEntry ENTRY_MAX (text_of (e ∷ es)) f (text_of fs) =
-    subst (λ (t : List ℕ). BeginsWithEntry ENTRY_MAX t f (text_of fs)) (sym same)
-    (begins f (text_of fs) fs_are.0 fs_fit.0) in
-    let both = one_beginning ENTRY_MAX ENTRY_MAX (text_of (e ∷ es)) e f (text_of es) (text_of fs)
-    (begins e (text_of es) es_are.0 es_fit.0) second in
-    let more = same_entries es fs es_are.1 es_fit.1 fs_are.1 fs_fit.1 both.1 in
+same_entries : (es fs : List Entry) (x y : List ℕ) → AllByRecursion IsEntry es → AllByRecursion Fits es
+    → AllByRecursion IsEntry fs → AllByRecursion Fits fs → ¬ (HasMore x) → ¬ (HasMore y)
+    → text_of es ++ x ≡ text_of fs ++ y → es ≡ fs
+same_entries [] [] x y es_are es_fit fs_are fs_fit x_ends y_ends same = refl
+same_entries [] (f ∷ fs) x y es_are es_fit fs_are fs_fit x_ends y_ends same =
+    absurd (x_ends (subst HasMore (sym same) (entries_more f fs y fs_are.0 fs_fit.0)))
+same_entries (e ∷ es) [] x y es_are es_fit fs_are fs_fit x_ends y_ends same =
+    absurd (y_ends (subst HasMore same (entries_more e es x es_are.0 es_fit.0)))
+same_entries (e ∷ es) (f ∷ fs) x y es_are es_fit fs_are fs_fit x_ends y_ends same =
+    let both = one_beginning ENTRY_MAX ENTRY_MAX (text_of (e ∷ es) ++ x) e f (text_of es ++ x) (text_of fs ++ y)
+    (begins_all e es x (text_of (e ∷ es) ++ x) es_are.0 es_fit.0 refl)
+    (begins_all f fs y (text_of (e ∷ es) ++ x) fs_are.0 fs_fit.0 same) in
+    let more = same_entries es fs x y es_are.1 es_fit.1 fs_are.1 fs_fit.1 x_ends y_ends both.1 in
     ap (λ (x : Entry). x ∷ es) both.0 ∙ ap (λ (xs : List Entry). f ∷ xs) more
 
 pub one_batch : (es fs : List Entry) (body : List ℕ) → IsBatch es body → IsBatch fs body → es ≡ fs
 one_batch es fs body one other =
-    same_entries es fs one.entries one.fits other.entries other.fits (sym one.text ∙ other.text)
+    same_entries es fs one.behind other.behind one.entries one.fits other.entries other.fits
+    (seal_ends (text_of es) one.behind one.seal) (seal_ends (text_of fs) other.behind other.seal)
+    (sym one.text ∙ other.text)
+
+pub one_list : (es fs : List Entry) (text : List ℕ) → AreEntries es text → AreEntries fs text → es ≡ fs
+one_list es fs text one other = one_batch es fs text (plain_batch es text one) (plain_batch fs text other)
 
 pub batch_has : (es : List Entry) (body : List ℕ) (e : Entry) → IsBatch es body → BatchHas body e → Has es e
 batch_has es body e batch has =
     subst (λ (l : List Entry). Has l e) (one_batch has.entries es body has.batch batch) has.has
 
-pub no_batch : IsBatch [] []
-no_batch = record { entries = tt; fits = tt; text = refl }
+-- ---- what waits
 
--- a batch of no octets has no entries
-pub empty_batch : (es : List Entry) (body : List ℕ) → body ≡ [] → IsBatch es body → [] ≡ es
-empty_batch es body none batch = none_of es (sym none ∙ batch.text)
+pub none_wait : AreEntries [] []
+none_wait = record { entries = tt; fits = tt; text_is = refl }
+
+-- no octets are no entries
+pub none_waits : (es : List Entry) (text : List ℕ) → text ≡ [] → AreEntries es text → [] ≡ es
+none_waits es text none are = none_of es (sym none ∙ are.text_is)
 
 -- one entry more
-pub batch_push : (es : List Entry) (e : Entry) (old new : List ℕ) → IsBatch es old → IsEntry e → Fits e
-    → new ≡ old ++ entry_text e → IsBatch (es ++ e ∷ []) new
-batch_push es e old new batch entry fits is = record {
-  entries = all_append IsEntry es (e ∷ []) batch.entries (entry, tt);
-  fits = all_append Fits es (e ∷ []) batch.fits (fits, tt);
-  text = is ∙ ap (λ (t : List ℕ). t ++ entry_text e) batch.text ∙ sym (text_push es e);
+pub waiting_push : (es : List Entry) (e : Entry) (old new : List ℕ) → AreEntries es old → IsEntry e → Fits e
+    → new ≡ old ++ entry_text e → AreEntries (es ++ e ∷ []) new
+waiting_push es e old new are entry fits is = record {
+  entries = all_append IsEntry es (e ∷ []) are.entries (entry, tt);
+  fits = all_append Fits es (e ∷ []) are.fits (fits, tt);
+  text_is = is ∙ ap (λ (t : List ℕ). t ++ entry_text e) are.text_is ∙ sym (text_push es e);
 }
 
 -- ---- one batch more

@@ -9,12 +9,12 @@ use Rattle.journal.specs.Journals.{KeepsOrSettlesOthers, LeavesNoBatch, SettlesO
 use Rattle.journal.specs.Journals.{Stands as JournalStands}
 use Rattle.archive_text.specs.Entries.{Entry}
 use Rattle.record_store.specs.Crashes.{Keeps}
-use Rattle.record_store.specs.Holdings.{IsBatch}
+use Rattle.record_store.specs.Holdings.{AreEntries}
 use Rattle.record_store.specs.Names.{IsJournal, journal_name}
 use Rattle.record_store.specs.Shown.{NoneShownAbove, ShowsNoJournal, ShowsWithin, journal_shown}
 use Rattle.record_store.specs.Stores.{AreAmong, IsReady, Stands, begun}
 use Rattle.record_store.specs.declared.store.RecordStore.{RecordStore}
-use Rattle.record_store.proofs.Batches.{journal_holds, no_batch}
+use Rattle.record_store.proofs.Batches.{journal_holds, none_wait}
 use Rattle.record_store.proofs.Covering.{CoveredAt, Covers, covered_as_before, covers_keeps, one_covers, others_settled}
 use Rattle.record_store.proofs.Folders.{HoldsAt, nothing}
 use Rattle.record_store.proofs.Leavings.{none_kept, none_shown, settled_shown}
@@ -89,7 +89,7 @@ module _ (old new : State) (number : ℕ) (name : List ℕ) (small : number < 2 
       let ready = create_ready store since above number_is name_is settles journal in
       record {
         keeps = create_keeps leaves committed received keeps;
-        batch = subst (IsBatch []) (sym empty) no_batch;
+        batch = subst (AreEntries []) (sym empty) none_wait;
         waits = λ e has. absurd has;
         within = among;
         ready = λ whole. ready;

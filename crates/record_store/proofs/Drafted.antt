@@ -9,7 +9,7 @@ use Rattle.disk.specs.declared.fault.DiskFault.{DiskFault}
 use Rattle.journal.specs.Journals.{IsOnDisk, IsSound, KeepsOthers, Shows}
 use Rattle.archive_text.specs.Entries.{Entry, Has}
 use Rattle.record_store.specs.Crashes.{Keeps}
-use Rattle.record_store.specs.Holdings.{HeldAt, IsBatch}
+use Rattle.record_store.specs.Holdings.{AreEntries, HeldAt}
 use Rattle.record_store.specs.Names.{Counts, IsSegment, journal_name}
 use Rattle.record_store.specs.Shown.{journal_shown}
 use Rattle.record_store.specs.Puts.{KeepsOrSettlesApart, LeavesOldOr}
@@ -19,7 +19,7 @@ use Rattle.record_store.specs.Turns.{HeldApart}
 use Rattle.record_store.specs.declared.store.RecordStore.{RecordStore}
 use Rattle.record_store.proofs.Covering.{CoveredAt, OthersLeaveLess, covered_as_before, covers_keeps, less_covers}
 use Rattle.record_store.proofs.Covering.{one_covers}
-use Rattle.record_store.proofs.Batches.{one_batch}
+use Rattle.record_store.proofs.Batches.{one_list}
 use Rattle.record_store.proofs.Leavings.{only_is, settled_may, settled_shown, shown_file, shown_left}
 use Rattle.record_store.proofs.Named.{not_both}
 use Rattle.record_store.proofs.Showing.{same_within}
@@ -72,9 +72,9 @@ module _ (name day text : List ℕ) (es : List Entry) (segment : IsSegment day n
   segment_no_more e (inl journal) = absurd (not_both day name journal.0 segment)
   segment_no_more e (inr (other_day, other, has)) =
       subst (λ (l : List Entry). Has l e)
-      (one_batch has.entries es text
-      (record { entries = has.archive.entries; fits = has.archive.fits; text = has.text_is })
-      (record { entries = is.archive.entries; fits = is.archive.fits; text = is.text_is })) has.has
+      (one_list has.entries es text
+      (record { entries = has.archive.entries; fits = has.archive.fits; text_is = has.text_is })
+      (record { entries = is.archive.entries; fits = is.archive.fits; text_is = is.text_is })) has.has
 
   pub segment_held : (new : State) (number : ℕ) → number < 2 ^ 64 → IsOnDisk new name text
       → HeldApart new (journal_name number) es
@@ -169,7 +169,7 @@ module _ (old new : State) (store after : RecordStore) (sets : Sets) (stands : S
       → (new.lost ≡ false → old.lost ≡ false) → Stands after new sets
   beside_stands whole sound = record {
     keeps = keeps;
-    batch = subst (IsBatch sets.waiting) (sym same_batch) stands.batch;
+    batch = subst (AreEntries sets.waiting) (sym same_batch) stands.batch;
     waits = stands.waits;
     within = stands.within;
     ready = λ not_broken.

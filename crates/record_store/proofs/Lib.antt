@@ -17,6 +17,7 @@ pub mod Opened
 pub mod Placed
 pub mod Readings
 pub mod Remaining
+pub mod Sealed
 pub mod Showing
 pub mod Standing
 pub mod Successions

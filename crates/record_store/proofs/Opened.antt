@@ -10,13 +10,13 @@ use Rattle.journal.specs.Journals.{IsOnDisk, IsSound, KeepsOrSettlesOthers, Keep
 use Rattle.journal.specs.Journals.{SettlesOthers, Shows, ShowsTheSame}
 use Rattle.archive_text.specs.Entries.{Entry, Has}
 use Rattle.record_store.specs.Crashes.{Keeps}
-use Rattle.record_store.specs.Holdings.{BatchesHave, HeldAt, IsBatch, JournalHas}
+use Rattle.record_store.specs.Holdings.{BatchesHave, HeldAt, AreEntries, JournalHas}
 use Rattle.record_store.specs.Names.{IsJournal, journal_name}
 use Rattle.record_store.specs.Shown.{GivesNewest, GivesShown, IsNewestShown, ShowsTheBatches}
 use Rattle.record_store.specs.Shown.{ShowsWithin}
 use Rattle.record_store.specs.Stores.{AreAmong, IsReady, Stands, begun}
 use Rattle.record_store.specs.declared.store.RecordStore.{RecordStore}
-use Rattle.record_store.proofs.Batches.{held_in_journal, journal_holds, no_batch, nothing_has, text_has}
+use Rattle.record_store.proofs.Batches.{held_in_journal, journal_holds, none_wait, nothing_has, text_has}
 use Rattle.record_store.proofs.Covering.{Covers, covered_as_before, covers_keeps, one_covers, others_same}
 use Rattle.record_store.proofs.Covering.{others_settled}
 use Rattle.record_store.proofs.Folders.{HoldsAt, nothing}
@@ -142,7 +142,7 @@ module _ (old new : State) (number : ℕ) (octets : List ℕ) (newest : IsNewest
       } in
       record {
         keeps = keeps;
-        batch = subst (IsBatch []) (sym empty) no_batch;
+        batch = subst (AreEntries []) (sym empty) none_wait;
         waits = λ e has. absurd has;
         within = among;
         ready = λ whole. ready;

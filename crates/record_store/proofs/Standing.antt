@@ -10,14 +10,16 @@ use Rattle.archive_text.specs.Text.{entry_text}
 use Rattle.archive_text.specs.declared.limits.TheConstants.{ENTRY_MAX}
 use Rattle.archive_text.proofs.Members.{has_either, has_left, has_right}
 use Rattle.record_store.specs.Crashes.{Keeps, resting}
-use Rattle.record_store.specs.Holdings.{IsBatch}
+use Rattle.record_store.specs.Holdings.{AreEntries, IsBatch}
 use Rattle.record_store.specs.Names.{IsJournal, journal_name}
+use Rattle.record_store.specs.Seals.{seal_of}
 use Rattle.record_store.specs.Shown.{NoneShownAbove}
 use Rattle.record_store.specs.Stores.{AreAmong, IsReady, Sets, Stands, all_committed, with_waiting}
 use Rattle.record_store.specs.declared.store.RecordStore.{RecordStore}
-use Rattle.record_store.proofs.Batches.{batch_has, batch_push, empty_batch, no_batch, pushed_either}
+use Rattle.record_store.proofs.Batches.{batch_has, none_wait, none_waits, pushed_either, waiting_push}
 use Rattle.record_store.proofs.Committing.{commit_keeps, commit_within, committed_keeps}
 use Rattle.record_store.proofs.Named.{numbers_apart}
+use Rattle.record_store.proofs.Sealed.{sealed_batch}
 use Rattle.record_store.proofs.Showing.{ready_shows}
 
 pub ready_named : (store : RecordStore) (state : State) (since : List Entry) → IsReady store state since
@@ -42,7 +44,10 @@ ready_as store after state since same_journal same_number ready = record {
 module _ (old new : State) (store after : RecordStore) (sets : Sets) (stands : Stands store old sets)
     (ready : IsReady store old sets.since) (keeps : KeepsOthers old new store.journal.name) where
   abbrev body : List ℕ
-  body = store.batch.items
+  body = store.batch.items ++ seal_of store.batch.items
+
+  sealed : IsBatch sets.waiting body
+  sealed = sealed_batch sets.waiting store.batch.items stands.batch
 
   was_received : AreAmong sets.waiting sets.received
   was_received e has = stands.within e (stands.waits e has)
@@ -59,19 +64,19 @@ module _ (old new : State) (store after : RecordStore) (sets : Sets) (stands : S
     pub commit_any : Keeps new sets.committed sets.received
     commit_any =
         commit_keeps old store.journal ready.bodies (ready_named store old sets.since ready) ready.stands new body keeps
-        leaves sets.committed sets.received sets.waiting stands.keeps stands.batch was_received
+        leaves sets.committed sets.received sets.waiting stands.keeps sealed was_received
 
     -- it has failed
-    pub commit_err : after.batch.items ≡ body → after.broken ≡ true → Stands after new sets
+    pub commit_err : after.batch.items ≡ store.batch.items → after.broken ≡ true → Stands after new sets
     commit_err same broken = record {
       keeps = commit_any;
-      batch = subst (IsBatch sets.waiting) (sym same) stands.batch;
+      batch = subst (AreEntries sets.waiting) (sym same) stands.batch;
       waits = stands.waits;
       within = stands.within;
       ready = λ not_broken. absurd (cc (broken, not_broken));
       shows = λ sound.
           commit_within old store.journal ready.bodies (ready_named store old sets.since ready) ready.stands new body
-          keeps leaves store.number sets.waiting sets.since ready.small ready.named none_later stands.batch stands.waits
+          keeps leaves store.number sets.waiting sets.since ready.small ready.named none_later sealed stands.waits
           ready.has;
     }
 
@@ -84,7 +89,7 @@ module _ (old new : State) (store after : RecordStore) (sets : Sets) (stands : S
       stands = journal;
       has = λ e has. ⊎_elim
           (λ before. ready.has e before)
-          (λ last. stands.waits e (batch_has sets.waiting body e stands.batch last))
+          (λ last. stands.waits e (batch_has sets.waiting body e sealed last))
           (pushed_either ready.bodies body e has);
       newest = λ n above small. later n (subst (λ (k : ℕ). k < n) number above) small;
     }
@@ -96,8 +101,8 @@ module _ (old new : State) (store after : RecordStore) (sets : Sets) (stands : S
         record {
           keeps = committed_keeps old store.journal ready.bodies (ready_named store old sets.since ready) ready.stands new
               body keeps leaves after.journal name journal sets.committed sets.received sets.waiting stands.keeps
-              stands.batch was_received;
-          batch = subst (IsBatch []) (sym none) no_batch;
+              sealed was_received;
+          batch = subst (AreEntries []) (sym none) none_wait;
           waits = λ e has. absurd has;
           within = stands.within;
           ready = λ not_broken. ready_then;
@@ -112,7 +117,7 @@ no_octets (x ∷ octets) none = absurd (omega (arith, none))
 pub idle_stands : (store : RecordStore) (state : State) (sets : Sets) → Stands store state sets
     → store.batch.items ≡ [] → Stands store state (all_committed sets)
 idle_stands store state sets stands empty =
-    let none : [] ≡ sets.waiting = empty_batch sets.waiting store.batch.items empty stands.batch in
+    let none : [] ≡ sets.waiting = none_waits sets.waiting store.batch.items empty stands.batch in
     record {
       keeps = record {
         nothing_lost = λ files may e has. stands.keeps.nothing_lost files may e
@@ -120,7 +125,7 @@ idle_stands store state sets stands empty =
             (has_either sets.committed sets.waiting e has));
         nothing_forged = stands.keeps.nothing_forged;
       };
-      batch = subst (λ (l : List Entry). IsBatch l store.batch.items) (sym none) stands.batch;
+      batch = subst (λ (l : List Entry). AreEntries l store.batch.items) (sym none) stands.batch;
       waits = λ e has. absurd has;
       within = stands.within;
       ready = stands.ready;
@@ -160,7 +165,7 @@ module _ (store after : RecordStore) (state : State) (sets : Sets) (stands : Sta
   pub stands_on : after.batch.items ≡ store.batch.items → Stands after state sets
   stands_on same = record {
     keeps = stands.keeps;
-    batch = subst (IsBatch sets.waiting) (sym same) stands.batch;
+    batch = subst (AreEntries sets.waiting) (sym same) stands.batch;
     waits = stands.waits;
     within = stands.within;
     ready = λ not_broken.
@@ -172,7 +177,7 @@ module _ (store after : RecordStore) (state : State) (sets : Sets) (stands : Sta
       → after.batch.items ≡ store.batch.items ++ entry_text e → Stands after state (with_waiting sets e)
   appended_stands e entry fits is = record {
     keeps = more_received state sets.committed sets.received e stands.keeps;
-    batch = batch_push sets.waiting e store.batch.items after.batch.items stands.batch entry fits is;
+    batch = waiting_push sets.waiting e store.batch.items after.batch.items stands.batch entry fits is;
     waits = has_more e sets.waiting sets.since stands.waits;
     within = has_more e sets.since sets.received stands.within;
     ready = λ not_broken.

@@ -13,13 +13,13 @@ use Rattle.journal.proofs.Batches.{before_closed}
 use Rattle.archive_text.specs.Entries.{Entry, Has}
 use Rattle.archive_text.proofs.Members.{has_either}
 use Rattle.record_store.specs.Crashes.{Keeps, MayLeaveCounted}
-use Rattle.record_store.specs.Holdings.{HeldAt, IsBatch}
+use Rattle.record_store.specs.Holdings.{HeldAt, AreEntries}
 use Rattle.record_store.specs.Names.{Counts, IsJournal, journal_name}
 use Rattle.record_store.specs.Shown.{ShowsWithin, journal_shown}
 use Rattle.record_store.specs.Stores.{IsReady, Sets, Stands, begun}
 use Rattle.record_store.specs.Turns.{HeldApart, turned}
 use Rattle.record_store.specs.declared.store.RecordStore.{RecordStore}
-use Rattle.record_store.proofs.Batches.{journal_holds, no_batch}
+use Rattle.record_store.proofs.Batches.{journal_holds, none_wait}
 use Rattle.record_store.proofs.Covering.{CoveredAt, Covers, OthersLeaveLess, covers_keeps}
 use Rattle.record_store.proofs.Covering.{others_settled, with-here, with-other, with_file}
 use Rattle.record_store.proofs.Creating.{create_at, create_keeps, create_ready, create_within}
@@ -255,7 +255,7 @@ turned_stands store after new sets name keeps apart empty ready = record {
         (has_either sets.committed sets.since e has);
     nothing_forged = keeps.nothing_forged;
   };
-  batch = subst (IsBatch []) (sym empty) no_batch;
+  batch = subst (AreEntries []) (sym empty) none_wait;
   waits = λ e has. absurd has;
   within = λ e has. absurd has;
   ready = λ whole. ready;
@@ -267,7 +267,7 @@ pub broken_stands : (store after : RecordStore) (old new : State) (sets : Sets) 
     → (new.lost ≡ false → ShowsWithin new sets.since) → Stands after new sets
 broken_stands store after old new sets stands same broken keeps shows = record {
   keeps = keeps;
-  batch = subst (IsBatch sets.waiting) (sym same) stands.batch;
+  batch = subst (AreEntries sets.waiting) (sym same) stands.batch;
   waits = stands.waits;
   within = stands.within;
   ready = λ whole. absurd (cc (broken, whole));
@@ -283,7 +283,7 @@ reopened_stands store opened after old new sets stands is whole same same_journa
     let ready = ready_as opened after new sets.since same_journal same_number (is.ready whole) in
     record {
       keeps = is.keeps;
-      batch = subst (IsBatch sets.waiting) (sym same) stands.batch;
+      batch = subst (AreEntries sets.waiting) (sym same) stands.batch;
       waits = stands.waits;
       within = stands.within;
       ready = λ not_broken. ready;

@@ -12,7 +12,7 @@ ghost use Rattle.record_store.specs.Stores.{all_committed, batch_of, begun, numb
 use crate::batch::put_entry;
 use crate::fault::{AppendFault, StoreFault};
 use crate::names::name_of_journal;
-use crate::seals::put_seal;
+use crate::sealing::put_seal;
 use archive_text::{ENTRY_MAX, entry_of_octets};
 use disk::Disk;
 use journal::{Journal, JournalFault};

@@ -67,7 +67,7 @@ pub fn has_entry(rest: &[u8]) -> bool
 pub fn seals(text: &[u8], behind: &[u8]) -> bool
     ensures { IsTrue result ↔ Seals text.now behind.now }
 {
-    behind.is_empty() || *behind == seal(text)
+    behind.is_empty() || behind == seal(text).as_slice()
 }
 
 // Whether the body of a batch ends with its seal.
@@ -78,7 +78,7 @@ fn is_sealed(body: &[u8]) -> bool
         return false;
     }
     let (text, behind) = body.split_at(body.len() - SEAL_LEN);
-    *behind == seal(text)
+    behind == seal(text).as_slice()
 }
 
 // How many octets the batch has whose length stands at the beginning, if it is whole.
