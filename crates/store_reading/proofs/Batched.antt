@@ -2,7 +2,8 @@
 use Rattle.std.proofs.Common.{◌≡◌, ◌⊎◌, ℕ, ◌<◌, ◌≤◌, List, [], ◌∷◌, ◌++◌, Option, None, Some, length, take, drop}
 use Rattle.std.proofs.Common.{inl, inr}
 use Rattle.std.proofs.Common.{refl, sym, ap, subst, ◌∙◌, append_assoc, arith, length-append}
-use Rattle.std.specs.Prelude.{◌↔◌, Err, IfOk, IfSome, IsErrOf, IsSomeAnd, Ok, Result, Vec, ℤ, codes}
+use Rattle.std.specs.Prelude.{◌↔◌, Bool, Err, IfOk, IfSome, IsErrOf, IsSomeAnd, IsTrue, Ok, Result, Vec, ℤ, codes, false}
+use Rattle.std.proofs.lemmas.Bool.{false≢true}
 use Rattle.std.specs.Int.{to_le_bytes, w32}
 use Rattle.std.specs.List.{AllByRecursion}
 use Rattle.std.proofs.lemmas.List.{append-nil, length-take, take_all, take_at, drop_at}
@@ -27,7 +28,7 @@ use Rattle.archive_text.proofs.Texts.{one_entry_of, text_goes_on}
 use Rattle.archive_sets.specs.declared.range.InRange.{InRange}
 use Rattle.record_store.specs.Holdings.{BatchHas, BatchesHave, IsBatch, IsReadable, JournalHas, SegmentHas}
 use Rattle.record_store.specs.Names.{IsJournal}
-use Rattle.record_store.specs.Seals.{Seals}
+use Rattle.record_store.specs.Seals.{HasMore, Seals}
 use Rattle.record_store.proofs.Batches.{batch_has, journal_has, push_has, pushed_either, pushed_has}
 use Rattle.store_reading.specs.Journals.{Adds, HasAsJournal, HasInMemory, IsOfMemory, MemoryHas}
 use Rattle.store_reading.specs.Journals.{NamedMemoryHas}
@@ -140,6 +141,9 @@ module _ (old new : List Entry) (body rest : List ℕ) (b : BatchAdded old new b
 
   pub batch_read : IsReadable body
   batch_read = (b.entries, batch)
+
+pub no_more : (found : Bool) (rest : List ℕ) → (IsTrue found ↔ HasMore rest) → found ≡ false → ¬ (HasMore rest)
+no_more found rest tells off more = false≢true (sym off ∙ tells.1 more)
 
 -- ---- a journal
 

@@ -46,6 +46,12 @@ pub at_err : {T E : Type 0} (r : Result T E) (fault : E) (P : E → Type 0) → 
 at_err (Ok x) fault P is p = tt
 at_err (Err x) fault P is p = subst P (sym is) p
 
+-- and what follows from what is so of it is so too
+pub if_err_more : {T E : Type 0} (r : Result T E) (P Q : E → Type 0) → ((fault : E) → P fault → Q fault) → IfErr r P
+    → IfErr r Q
+if_err_more (Ok x) P Q more p = tt
+if_err_more (Err fault) P Q more p = more fault p
+
 -- where each cause is one of others
 module _ (causes others : Causes) (failed : causes.failed → others.failed)
     (read : (name : List ℕ) → causes.read name → others.read name)

@@ -44,8 +44,8 @@ use Rattle.store_reading.specs.declared.fault.FileFault.TheVariants.{Archive, Di
 use Rattle.store_reading.proofs.Batched.{BatchAdded, JournalAdded}
 use Rattle.store_reading.proofs.Joined.{rest_of, whole_rest}
 use Rattle.store_reading.proofs.Hidden.{hidden_not_whole}
-use Rattle.store_reading.proofs.Readable.{IsCheckedUpTo, IsReadUpTo, batch_fault, journal_fault, whole_parts}
-use Rattle.store_reading.proofs.Sealed.{fault_unreadable, seal_unreadable}
+use Rattle.store_reading.proofs.Readable.{IsCheckedUpTo, IsReadUpTo, batch_fault, fault_unreadable, journal_fault}
+use Rattle.store_reading.proofs.Readable.{seal_unreadable, whole_parts}
 
 -- ---- what was read of a segment
 

@@ -2,6 +2,7 @@
 use Rattle.std.proofs.Common.{◌≡◌, ◌+◌, ◌-◌, ℕ, List, [], ◌∷◌, ◌++◌, Option, None, Some, length, refl, sym, ap, subst, ◌∙◌}
 use Rattle.std.proofs.Common.{append_assoc, length-append, arith}
 use Rattle.std.specs.Prelude.{IfNone, IfSome, IsSomeAnd, Vec}
+use Rattle.std.specs.Global.{Global}
 use Rattle.std.specs.List.{AllByRecursion}
 use Rattle.std.proofs.lemmas.List.{append_cancel_left}
 use Rattle.journal.specs.Batches.{HasBatches, IsBody, IsClosed, batches_text, open_batch}
@@ -84,16 +85,31 @@ given_file None left octets opens given = absurd opens
 given_file (Some f) left octets opens given =
     subst (λ (l : Option (List ℕ)). IfSome l (λ (input : List ℕ). octets ≡ input)) opens given
 
-module _ {Z : Type 0} (octets : Vec ℕ Z) where
-  pub octets_read : (file : Option (List ℕ)) → IsSomeAnd file (λ f. octets.items ≡ f) → HidesNothing octets.items
-      → IsSomeAnd file (λ f. (octets.items ≡ f) × HidesNothing f)
-  octets_read None is none = absurd is
-  octets_read (Some f) is none = (is, subst HidesNothing is none)
+pub octets_read : (octets : Vec ℕ Global) (file : Option (List ℕ)) → IsSomeAnd file (λ f. octets.items ≡ f)
+    → HidesNothing octets.items → IsSomeAnd file (IsJournalFile (Octets octets))
+octets_read octets None is none = absurd is
+octets_read octets (Some f) is none = (is, subst HidesNothing is none)
 
 pub hidden_read : (file : Option (List ℕ)) (octets : List ℕ) (at : ℕ) → IsSomeAnd file (λ f. octets ≡ f)
-    → IsHiddenAt octets at → IsSomeAnd file (λ f. IsHiddenAt f at)
+    → IsHiddenAt octets at → IsSomeAnd file (IsJournalFile (Hidden at))
 hidden_read None octets at is h = absurd is
 hidden_read (Some f) octets at is h = subst (λ (t : List ℕ). IsHiddenAt t at) is h
+
+-- what is so of the octets that were read is so of the file
+module _ (journal : JournalFile) (octets : Vec ℕ Global) (same : journal ≡ Octets octets) (given : List ℕ)
+    (given_is : given ≡ octets.items) (file : List ℕ) (is : IsJournalFile journal file) where
+  of_octets : (octets.items ≡ file) × HidesNothing file
+  of_octets = subst (λ (j : JournalFile). IsJournalFile j file) same is
+
+  pub file_is : given ≡ file
+  file_is = given_is ∙ of_octets.0
+
+  pub nothing_hidden : HidesNothing file
+  nothing_hidden = of_octets.1
+
+pub hidden_file : (journal : JournalFile) (at : ℕ) → journal ≡ Hidden at → (file : List ℕ)
+    → IsJournalFile journal file → IsHiddenAt file at
+hidden_file journal at same file is = subst (λ (j : JournalFile). IsJournalFile j file) same is
 
 -- what was read again does not hide batches from the same place on, so it hides none
 pub again_plain : (file : Option (List ℕ)) (first again : List ℕ) (at : ℕ) (found : Option ℕ)

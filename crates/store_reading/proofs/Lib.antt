@@ -17,7 +17,6 @@ pub mod Ranged
 pub mod Readable
 pub mod SameSets
 pub mod SegmentNames
-pub mod Sealed
 pub mod Segments
 pub mod Whole
 pub mod Written

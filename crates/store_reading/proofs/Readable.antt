@@ -1,8 +1,9 @@
 -- Batches are read, or not.
 use Rattle.std.proofs.Common.{◌≡◌, ℕ, ◌<◌, List, [], ◌∷◌, ◌++◌, length, refl, sym, ap, subst, ◌∙◌, arith}
-use Rattle.std.proofs.Common.{◌+◌, ◌-◌, ◌≤◌, ◌^◌, suc, inl, inr, min, append_assoc, length-append}
+use Rattle.std.proofs.Common.{◌+◌, ◌-◌, ◌≤◌, ◌^◌, suc, inl, inr, min, take, drop, append_assoc, length-append}
 use Rattle.std.specs.Int.{w32, to_le_bytes}
 use Rattle.std.specs.List.{AllByRecursion}
+use Rattle.std.proofs.lemmas.List.{drop_at, take_at}
 use Rattle.journal.specs.Batches.{batches_text, HasBatches, IsBody, IsClosed, open_batch}
 use Rattle.journal.proofs.Batches.{text-push}
 use Rattle.journal.proofs.Readings.{same_batch}
@@ -19,9 +20,49 @@ use Rattle.archive_text.proofs.Prefixes.{fault_excludes}
 use Rattle.archive_text.proofs.Members.{all_append}
 use Rattle.archive_text.proofs.Texts.{entry_carries, one_beginning, text_goes_on, text_some}
 use Rattle.record_store.specs.Holdings.{AreEntries, IsReadable, IsWholeJournal}
-use Rattle.record_store.specs.Seals.{HidesBatches}
+use Rattle.record_store.specs.Seals.{HasMore, HidesBatches, Seals}
+use Rattle.record_store.proofs.Sealed.{begins_some, rest_of, rest_seals}
 use Rattle.record_store.specs.declared.journal_damage.JournalDamage.{JournalDamage}
-use Rattle.store_reading.specs.Damages.{IsBatchDamage, IsBatchFault, IsJournalFault}
+use Rattle.record_store.specs.declared.journal_damage.JournalDamage.TheVariants.{Checksum}
+use Rattle.store_reading.specs.Damages.{IsBatchDamage, IsBatchFault, IsJournalFault, IsOtherSeal, position}
+use Rattle.store_reading.specs.declared.fault.FileFault.TheVariants.{Journal}
+
+module _ (entries : List Entry) (body rest : List ℕ) (are : AllByRecursion IsEntry entries)
+    (fit : AllByRecursion (λ e. length e.octets ≤ ENTRY_MAX) entries) (parts : body ≡ text_of entries ++ rest) where
+  -- a fault comes where an entry or the seal has to be
+  pub fault_unreadable : (fault : ArchiveFault) → IsFaultBefore ENTRY_MAX rest fault → HasMore rest
+      → ¬ (IsReadable body)
+  fault_unreadable fault bad more readable =
+      let next = begins_some entries rest more (rest_of entries rest body parts are fit readable) in
+      fault_excludes ENTRY_MAX [] rest _ (fault_later ENTRY_MAX [] rest fault bad) next.0 next.1 next.2 (tt, tt)
+
+  -- something else than the seal comes
+  pub seal_unreadable : ¬ (HasMore rest) → ¬ (Seals (text_of entries) rest) → ¬ (IsReadable body)
+  seal_unreadable over other readable =
+      other (rest_seals entries rest over (rest_of entries rest body parts are fit readable))
+
+-- ---- what is behind the entries of a batch
+
+module _ (body rest text front behind : List ℕ) (n : ℕ) (n_is : n ≡ length body - length rest)
+    (front_is : front ≡ take n body) (behind_is : behind ≡ drop n body) (parts : body ≡ text ++ rest) where
+  size : length text ≡ n
+  size = omega (arith, n_is, ap length parts, length-append text rest)
+
+  first : front ≡ text
+  first = front_is ∙ ap (take n) parts ∙ take_at text rest n size
+
+  last : behind ≡ rest
+  last = behind_is ∙ ap (drop n) parts ∙ drop_at text rest n size
+
+  pub seal_is : Seals front behind → Seals text rest
+  seal_is seals = subst (λ (t : List ℕ). Seals t rest) first (subst (Seals front) last seals)
+
+  pub other_seal : (offset at : ℕ) → ¬ (Seals front behind) → at ≡ position (offset + length front)
+      → IsOtherSeal text rest offset (Journal (Checksum at))
+  other_seal offset at other place = record {
+    other = λ seals. other (subst (λ (t : List ℕ). Seals t behind) (sym first) (subst (Seals text) (sym last) seals));
+    told_is = ap (λ (k : ℕ). Journal (Checksum k)) (place ∙ ap (λ (t : List ℕ). position (offset + length t)) first);
+  }
 
 -- a batch was read up to here
 pub record IsReadUpTo (body rest : List ℕ) : Type 0 where
