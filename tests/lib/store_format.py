@@ -1,38 +1,90 @@
-"""A second reader of a store's files, for tests only and independent of the program: the batches of a journal, the segments
-of days and those that several share, and the set of records that a folder holds."""
+"""A second reader and writer of a store's files, for tests only and independent of the program: the batches of a journal and
+their seals, the segments of days and those that several share, and the set of records that a folder holds."""
 import hashlib
 import re
 from functools import lru_cache
 from pathlib import Path
 
-from lib.reference import archive_read, canonical, counted_frames, entry_fault, framed
+from lib.reference import archive_read, canonical, counted, counted_frames, entry_fault, framed
 
 JOURNAL = re.compile(rb"journal\.(0|[1-9]\d*)")
 SEGMENT = re.compile(rb"(mixed|undated|\d{4}-\d\d-\d\d)\.([0-9a-f]{64})\.archive")
-OPEN, CLOSED, HEAD = 1, 0, 5
+# the octets before a batch, closed ones also as older programs wrote them; how many octets stand before a body, and in a seal
+OPEN, CLOSED, OLDER_CLOSED, HEAD, SEAL = 1, 254, 0, 5, 9
+REFLECTED = 0x82F63B78  # the polynomial of CRC-32C
+
+
+@lru_cache(maxsize=65_536)
+def crc32c(octets):
+    left = 0xFFFFFFFF
+    for octet in octets:
+        left ^= octet
+        for _ in range(8):
+            left = left >> 1 ^ (REFLECTED if left & 1 else 0)
+    return left ^ 0xFFFFFFFF
+
+
+def seal(text):
+    """What stands behind the entries of a batch."""
+    return b"#" + len(text).to_bytes(4, "little") + crc32c(text).to_bytes(4, "little")
+
+
+def sealed(records):
+    """The body of a batch."""
+    return counted(records) + seal(counted(records))
 
 
 def open_batch(body):
     return bytes([OPEN]) + len(body).to_bytes(4, "little") + body
 
 
+def body_at(octets, at):
+    """The body of the batch that is open and whole at an offset, or None."""
+    end = at + HEAD + int.from_bytes(octets[at + 1:at + HEAD], "little")
+    is_whole = len(octets) - at >= HEAD and octets[at] == OPEN and end <= len(octets)
+    return octets[at + HEAD:end] if is_whole else None
+
+
 def bodies_of(journal):
     """The bodies of the batches that are open and whole at the beginning of a journal, and where they end."""
     bodies, at = [], 0
-    while len(journal) - at >= HEAD and journal[at] == OPEN:
-        end = at + HEAD + int.from_bytes(journal[at + 1:at + HEAD], "little")
-        if end > len(journal):
-            break
-        bodies.append(journal[at + HEAD:end])
-        at = end
+    while (body := body_at(journal, at)) is not None:
+        bodies.append(body)
+        at += HEAD + len(body)
     return bodies, at
+
+
+def is_sealed_at(octets, at):
+    body = body_at(octets, at)
+    return body is not None and len(body) >= SEAL and body[-SEAL:] == seal(body[:-SEAL])
+
+
+def hides(tail):
+    """Whether what is behind the batches of a journal is not what a crash leaves there."""
+    if len(tail) < 2:
+        return False
+    if tail[0] not in (CLOSED, OLDER_CLOSED):
+        return True
+    opened = bytes([OPEN]) + tail[1:]
+    skipped = body_at(opened, 0)
+    return tail[0] == OLDER_CLOSED and is_sealed_at(opened, 0) or skipped is not None and is_sealed_at(opened, HEAD + len(skipped))
 
 
 @lru_cache(maxsize=65_536)
 def of_batch(body):
-    """The records of a batch, None where it is no sequence of entries."""
-    frames, fault = counted_frames(body)
-    return None if fault or any(entry_fault(frame, canonical) for frame in frames) else frozenset(frames)
+    """The records of a batch, None where it is no sequence of entries and their seal, or of entries alone."""
+    frames, _ = counted_frames(body)
+    if None in frames or any(entry_fault(frame, canonical) for frame in frames):
+        return None
+    text = counted(frames)
+    return frozenset(frames) if body[len(text):] in (b"", seal(text)) else None
+
+
+def of_journal(octets):
+    """The records of a journal, None where it is damaged."""
+    bodies, end = bodies_of(octets)
+    parts = [of_batch(body) for body in bodies]
+    return None if None in parts or hides(octets[end:]) else frozenset().union(*parts)
 
 
 def day_of(record):
@@ -63,7 +115,7 @@ def held(files):
         journal, segment = JOURNAL.fullmatch(name), SEGMENT.fullmatch(name)
         parts = []
         if journal and is_number(journal.group(1)):
-            parts = [of_batch(body) for body in bodies_of(octets)[0]]
+            parts = [of_journal(octets)]
         elif segment:
             parts = [of_segment(segment.group(1), octets) if is_named_right(name, octets) else None]
         if None in parts:

@@ -1,7 +1,7 @@
 //! `verify`: which files of a store are damaged.
 ghost use Rattle.std.specs.Prelude.{◌≡◌, IfOk};
 ghost use Rattle.store_engine.specs.Lines.{damage_lines};
-ghost use Rattle.store_engine.specs.Verifying.{IsVerdictStatus};
+ghost use Rattle.store_engine.specs.Verifying.{IsVerdictStatus, RanVerify};
 
 use crate::lines::damaged_line;
 use crate::read::report_read_fault;
@@ -38,6 +38,10 @@ pub fn verify_store<F: Folder, W: Output, N: Output>(
     output: &mut W,
     diagnostics: &mut N,
 ) -> u8
+    // a line on each damaged file, or on those before a fault, which is told and has a cause
+    ensures ran { RanVerify (F.tells folder.new) (F.has_failed folder.new) (F.files folder.old)
+        (W.state output.old) (W.state output.new) (N.state diagnostics.old)
+        (N.state diagnostics.new) result }
     ensures same { F.tells folder.new → F.files folder.new ≡ F.files folder.old }
     ensures told { F.tells folder.new → F.tells folder.old }
 {
