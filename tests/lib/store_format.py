@@ -67,7 +67,9 @@ def hides(tail):
         return True
     opened = bytes([OPEN]) + tail[1:]
     skipped = body_at(opened, 0)
-    return tail[0] == OLDER_CLOSED and is_sealed_at(opened, 0) or skipped is not None and is_sealed_at(opened, HEAD + len(skipped))
+    if tail[0] == OLDER_CLOSED and is_sealed_at(opened, 0):
+        return True
+    return skipped is not None and is_sealed_at(opened, HEAD + len(skipped))
 
 
 @lru_cache(maxsize=65_536)
