@@ -3,8 +3,8 @@ import tempfile
 
 from lib.reference import archive_text, counted, counted_frames
 from lib.server import SOON, Runs, any_port
-from lib.store_format import CLOSED, HEAD, JOURNAL, OLDER_CLOSED, OPEN, SEAL, bodies_of, files_of, hides, of_batch, of_journal
-from lib.store_format import open_batch
+from lib.store_format import CLOSED, HEAD, JOURNAL, OLDER_CLOSED, OPEN, SEAL, bodies_of, files_of, hides_batches, of_batch
+from lib.store_format import of_journal, open_batch
 
 SENT = [b"<13>1 - h journal - - - first", b"<14>1 2026-11-25T10:00:00.000000Z h journal - - - second",
         b"<15>1 - h journal - - - the third and last"]
@@ -27,7 +27,7 @@ def served(runs):
 def place_of(octets):
     """Where the fault of a damaged journal is: a checksum, hidden batches, or an entry of a batch."""
     bodies, end = bodies_of(octets)
-    if hides(octets[end:]):
+    if hides_batches(octets[end:]):
         return f"hidden {end}"
     at = 0
     for body in bodies:

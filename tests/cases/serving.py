@@ -20,7 +20,7 @@ from lib.loopback import HERE, free_port, kind_of
 from lib.reference import archive_text, counted, counted_frames, framed
 from lib.server import (SOON, Runs, any_port, datagrams_wait, end, family_of, has_ipv6, numbered, refused_file, reset,
                         spelled, until, until_arrived, until_closed, until_taken)
-from lib.store_format import bodies_of
+from lib.store_format import bodies_of, seal_of
 
 SEED = 5426
 FRAME_MAX = 262_144
@@ -495,7 +495,8 @@ def commits(runs):
             server.go_on()
             runs.holds("--commit 0, datagrams", server, *sent)
         batches, _ = bodies_of((server.store / "journal.1").read_bytes())
-        runs.results.same("--commit 0: a batch for each read", batches, [framed("counted", record) for record in sent])
+        texts = [framed("counted", record) for record in sent]
+        runs.results.same("--commit 0: a batch for each read", batches, [text + seal_of(text) for text in texts])
         with server.open("lf") as one:
             one.sendall(A + b"\n" + Y)
             runs.holds("--commit 0, a connection", server, A, *sent)

@@ -1,7 +1,8 @@
 """What a power cut may leave of a folder, by the log of the calls of a run (trace.c).
 
 The model: octets that were written since the last sync of their file may be there in part, in any order, or be any others,
-and the file may have any length that it had since; no other octet changes. A name that was made, taken or removed since the
+and the file may have any length that it had since; no other octet changes. An octet on the disk that was written over since
+is as it was or as it is: that of a disk is written whole, and a start refuses any other before a batch as damage. A name that was made, taken or removed since the
 last sync of the folder may be as it was before, each name on its own; under one whose file was given another name there may
 be anything.
 """
@@ -190,9 +191,9 @@ class Cut:
         elif kind == 4:
             left = other
         left[:file.synced] = file.shown[:file.synced][:length]
-        for place in file.rewritten:  # each that was written over: as it is, as it was, or any
+        for place in file.rewritten:  # each that was written over: as it is, or as it was
             if place < length:
-                left[place] = self.random.choice([whole[place], file.disk[place], self.random.randrange(256)])
+                left[place] = self.random.choice([whole[place], file.disk[place]])
         return bytes(left)
 
     def under(self, name):

@@ -1,92 +1,101 @@
-"""A second reader and writer of a store's files, for tests only and independent of the program: the batches of a journal and
-their seals, the segments of days and those that several share, and the set of records that a folder holds."""
+"""A second reader of a store's files, for tests only and independent of the program: the batches of a journal, the segments
+of days and those that several share, and the set of records that a folder holds."""
 import hashlib
 import re
 from functools import lru_cache
 from pathlib import Path
 
-from lib.reference import archive_read, canonical, counted, counted_frames, entry_fault, framed
+from lib.reference import archive_read, canonical, counted_frames, entry_fault, framed
 
 JOURNAL = re.compile(rb"journal\.(0|[1-9]\d*)")
 SEGMENT = re.compile(rb"(mixed|undated|\d{4}-\d\d-\d\d)\.([0-9a-f]{64})\.archive")
-# the octets before a batch, closed ones also as older programs wrote them; how many octets stand before a body, and in a seal
 OPEN, CLOSED, OLDER_CLOSED, HEAD, SEAL = 1, 254, 0, 5, 9
-REFLECTED = 0x82F63B78  # the polynomial of CRC-32C
+POLYNOMIAL = 0x82F63B78  # of CRC-32C, the low bits first
 
 
-@lru_cache(maxsize=65_536)
+def remainder(octet):
+    for _ in range(8):
+        octet = octet >> 1 ^ POLYNOMIAL * (octet & 1)
+    return octet
+
+
+REMAINDERS = [remainder(octet) for octet in range(256)]
+
+
 def crc32c(octets):
-    left = 0xFFFFFFFF
+    register = 0xFFFFFFFF
     for octet in octets:
-        left ^= octet
-        for _ in range(8):
-            left = left >> 1 ^ (REFLECTED if left & 1 else 0)
-    return left ^ 0xFFFFFFFF
+        register = register >> 8 ^ REMAINDERS[(register ^ octet) & 255]
+    return register ^ 0xFFFFFFFF
 
 
-def seal(text):
+def seal_of(text):
     """What stands behind the entries of a batch."""
     return b"#" + len(text).to_bytes(4, "little") + crc32c(text).to_bytes(4, "little")
 
 
-def sealed(records):
-    """The body of a batch."""
-    return counted(records) + seal(counted(records))
+@lru_cache(maxsize=65_536)
+def is_sealed(body):
+    """Whether a body ends with its seal."""
+    return len(body) >= SEAL and body[-SEAL:] == seal_of(body[:-SEAL])
 
 
 def open_batch(body):
     return bytes([OPEN]) + len(body).to_bytes(4, "little") + body
 
 
-def body_at(octets, at):
-    """The body of the batch that is open and whole at an offset, or None."""
-    end = at + HEAD + int.from_bytes(octets[at + 1:at + HEAD], "little")
-    is_whole = len(octets) - at >= HEAD and octets[at] == OPEN and end <= len(octets)
-    return octets[at + HEAD:end] if is_whole else None
-
-
 def bodies_of(journal):
     """The bodies of the batches that are open and whole at the beginning of a journal, and where they end."""
     bodies, at = [], 0
-    while (body := body_at(journal, at)) is not None:
-        bodies.append(body)
-        at += HEAD + len(body)
+    while len(journal) - at >= HEAD and journal[at] == OPEN:
+        end = at + HEAD + int.from_bytes(journal[at + 1:at + HEAD], "little")
+        if end > len(journal):
+            break
+        bodies.append(journal[at + HEAD:end])
+        at = end
     return bodies, at
 
 
-def is_sealed_at(octets, at):
-    body = body_at(octets, at)
-    return body is not None and len(body) >= SEAL and body[-SEAL:] == seal(body[:-SEAL])
+def first_batch(octets):
+    """The body whose length stands at the beginning, and what is behind it; None where it is not whole."""
+    end = HEAD - 1 + int.from_bytes(octets[:HEAD - 1], "little")
+    return (octets[HEAD - 1:end], octets[end:]) if HEAD - 1 <= len(octets) and end <= len(octets) else None
 
 
-def hides(tail):
-    """Whether what is behind the batches of a journal is not what a crash leaves there."""
+def begins_sealed(octets):
+    """Whether a batch that is open, whole and sealed is at the beginning."""
+    first = first_batch(octets[1:])
+    return octets[:1] == bytes([OPEN]) and first is not None and is_sealed(first[0])
+
+
+def hides_batches(tail):
+    """Whether what is behind the batches of a journal is nothing that a crash leaves there."""
     if len(tail) < 2:
         return False
     if tail[0] not in (CLOSED, OLDER_CLOSED):
         return True
-    opened = bytes([OPEN]) + tail[1:]
-    skipped = body_at(opened, 0)
-    if tail[0] == OLDER_CLOSED and is_sealed_at(opened, 0):
-        return True
-    return skipped is not None and is_sealed_at(opened, HEAD + len(skipped))
+    first = first_batch(tail[1:])
+    return first is not None and (tail[0] == OLDER_CLOSED and is_sealed(first[0]) or begins_sealed(first[1]))
+
+
+def of_entries(text):
+    """The records of a text, None where it is no sequence of entries."""
+    frames, fault = counted_frames(text)
+    return None if fault or any(entry_fault(frame, canonical) for frame in frames) else frozenset(frames)
 
 
 @lru_cache(maxsize=65_536)
 def of_batch(body):
-    """The records of a batch, None where it is no sequence of entries and their seal, or of entries alone."""
-    frames, _ = counted_frames(body)
-    if None in frames or any(entry_fault(frame, canonical) for frame in frames):
-        return None
-    text = counted(frames)
-    return frozenset(frames) if body[len(text):] in (b"", seal(text)) else None
+    """The records of a batch, sealed or as older programs wrote it; None where it is damaged."""
+    found = of_entries(body[:-SEAL]) if is_sealed(body) else None
+    return of_entries(body) if found is None else found
 
 
 def of_journal(octets):
     """The records of a journal, None where it is damaged."""
     bodies, end = bodies_of(octets)
     parts = [of_batch(body) for body in bodies]
-    return None if None in parts or hides(octets[end:]) else frozenset().union(*parts)
+    return None if None in parts or hides_batches(octets[end:]) else frozenset().union(*parts)
 
 
 def day_of(record):

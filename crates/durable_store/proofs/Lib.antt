@@ -3,6 +3,7 @@ pub mod Daily
 pub mod Failing
 pub mod Growth
 pub mod Mixing
+pub mod Newest
 pub mod Readable
 pub mod Recovered
 pub mod Runs

@@ -1,6 +1,7 @@
 -- Batches that are read whole, and faults that tell damage.
-use Rattle.std.proofs.Common.{◌≡◌, ℕ, ◌<◌, ◌≤◌, List, [], ◌∷◌, ◌++◌, length, sym, ap, subst, ◌∙◌, arith}
-use Rattle.std.proofs.Common.{append_assoc, append-nil, length-append}
+use Rattle.std.proofs.Common.{◌≡◌, ℕ, ◌-◌, ◌<◌, ◌≤◌, List, [], ◌∷◌, ◌++◌, length, take, sym, ap, subst, ◌∙◌, arith}
+use Rattle.std.proofs.Common.{append_assoc, length-append}
+use Rattle.std.proofs.lemmas.List.{take_at}
 use Rattle.std.specs.Prelude.{ℤ, Err, IfErr, IsErrAnd, IsErrOf, Ok, Result}
 use Rattle.std.specs.List.{AllByRecursion}
 use Rattle.journal.specs.Batches.{batches_text, HasBatches, IsBody, IsClosed, open_batch}
@@ -13,20 +14,21 @@ use Rattle.disk.specs.States.{State}
 use Rattle.journal.specs.Journals.{IsSound}
 use Rattle.archive_text.specs.Entries.{Entry, IsEntry, IsEntryOf}
 use Rattle.archive_text.specs.Faults.{IsFaultBefore}
-use Rattle.archive_text.specs.Text.{BeginsWithEntry, entry_text, text_of}
+use Rattle.archive_text.specs.Text.{text_of}
 use Rattle.archive_text.specs.declared.fault.ArchiveFault.{ArchiveFault}
 use Rattle.archive_text.specs.declared.store.AddFault.{AddFault}
 use Rattle.archive_text.specs.declared.limits.TheConstants.{ENTRY_MAX}
 use Rattle.archive_text.proofs.FaultLaws.{fault_later}
 use Rattle.archive_text.proofs.Prefixes.{fault_excludes}
-use Rattle.archive_text.proofs.Texts.{entry_carries, one_beginning, text_some}
-use Rattle.record_store.specs.Holdings.{IsBatch, IsReadable, IsWholeJournal}
-use Rattle.record_store.specs.Shown.{GivesNewest}
+use Rattle.record_store.specs.Holdings.{IsReadable, IsWholeJournal}
+use Rattle.record_store.specs.Seals.{HasMore, HidesBatches, Seals}
+use Rattle.record_store.specs.Shown.{IsNewestShown}
+use Rattle.record_store.proofs.Sealed.{RestOf, begins_some, rest_of, rest_seals}
 use Rattle.durable_store.specs.Causes.{IsOpeningCause}
 use Rattle.durable_store.specs.Recovery.{BeginsWithSome, Refutes}
 use Rattle.durable_store.specs.declared.fault.OpenFault.{OpenFault}
 use Rattle.durable_store.specs.declared.fault.OpenFault.TheVariants.{Store, Damaged, Memory}
-use Rattle.durable_store.proofs.Recovered.{BatchAdded, JournalAdded}
+use Rattle.durable_store.proofs.Recovered.{BatchAdded, JournalAdded, added_batch}
 
 -- what is so of the fault that was handed on is so of the result's
 pub at_err : {T E : Type 0} (r : Result T E) (fault : E) (P : E → Type 0) → IsErrAnd r (λ x. x ≡ fault) → P fault
@@ -43,84 +45,50 @@ refutes_more number A B Memory from bad = tt
 
 -- ---- a batch
 
--- the first entry of a sequence
-pub first_of : (f : Entry) (es : List Entry) (text : List ℕ) → IsBatch (f ∷ es) text
-    → BeginsWithEntry ENTRY_MAX text f (text_of es)
-first_of f es text b = record {
-  entry = b.entries.0;
-  fits = b.fits.0;
-  carries = entry_carries ENTRY_MAX f (omega arith) b.entries.0 b.fits.0;
-  parts = b.text;
-}
-
--- a sequence of entries begins with one, if it is not empty
-pub begins_some : (text : List ℕ) → ¬ (text ≡ []) → IsReadable text → BeginsWithSome text
-begins_some text some ([], b) = absurd (some b.text)
-begins_some text some (f ∷ es, b) = (f, text_of es, first_of f es text b)
-
 -- at a fault there is no entry
 pub none_begins : (text : List ℕ) (fault : ArchiveFault) → IsFaultBefore ENTRY_MAX text fault → ¬ (BeginsWithSome text)
 none_begins text fault bad (e, behind, begins) =
     fault_excludes ENTRY_MAX [] text _ (fault_later ENTRY_MAX [] text fault bad) e behind begins (tt, tt)
 
--- the entries of a sequence behind its first ones
-pub readable_behind : (entries : List Entry) (rest : List ℕ) → AllByRecursion IsEntry entries
-    → AllByRecursion (λ e. length e.octets ≤ ENTRY_MAX) entries → IsReadable (text_of entries ++ rest) → IsReadable rest
-readable_behind [] rest are fit h = h
-readable_behind (e ∷ entries) rest are fit h = readable_behind entries rest are.1 fit.1 (there h)
-  where
-    all : List ℕ
-    all = (entry_text e ++ text_of entries) ++ rest
+-- what is left of a batch of entries behind those that were added
+pub left_of : (old new : List Entry) (body rest : List ℕ) (b : BatchAdded old new body rest) → IsReadable body
+    → RestOf b.entries rest
+left_of old new body rest b h = rest_of b.entries rest body b.parts b.are b.fit h
 
-    begins : BeginsWithEntry ENTRY_MAX all e (text_of entries ++ rest)
-    begins = record {
-      entry = are.0;
-      fits = fit.0;
-      carries = entry_carries ENTRY_MAX e (omega arith) are.0 fit.0;
-      parts = append_assoc (entry_text e) (text_of entries) rest;
-    }
+-- an entry begins it where something is left
+pub next_begins : (old new : List Entry) (body rest : List ℕ) → BatchAdded old new body rest → HasMore rest
+    → IsReadable body → BeginsWithSome rest
+next_begins old new body rest b some h = begins_some b.entries rest some (left_of old new body rest b h)
 
-    there : IsReadable all → IsReadable (text_of entries ++ rest)
-    there ([], b) =
-        absurd (omega (
-          arith,
-          ap length b.text,
-          ap length (append_assoc (entry_text e) (text_of entries) rest),
-          length-append (entry_text e) (text_of entries ++ rest),
-          text_some e,
-        ))
-    there (f ∷ es, b) =
-        let same = one_beginning ENTRY_MAX ENTRY_MAX all e f (text_of entries ++ rest) (text_of es) begins
-        (first_of f es all b) in
-        (es, record { entries = b.entries.1; fits = b.fits.1; text = same.1 })
+-- the octets of the entries that were added
+pub read_text : (old new : List Entry) (body rest : List ℕ) (b : BatchAdded old new body rest) (text : List ℕ) (read : ℕ)
+    → read ≡ length body - length rest → text ≡ take read body → text ≡ text_of b.entries
+read_text old new body rest b text read read_is text_is =
+    let size : read ≡ length (text_of b.entries) =
+    omega (arith, read_is, ap length b.parts, length-append (text_of b.entries) rest) in
+    text_is ∙ ap (λ (l : List ℕ). take read l) b.parts ∙ take_at (text_of b.entries) rest read (sym size)
 
-pub rest_readable : (old new : List Entry) (body rest : List ℕ) → BatchAdded old new body rest → IsReadable body
-    → IsReadable rest
-rest_readable old new body rest b h =
-    readable_behind b.entries rest b.are b.fit (subst IsReadable b.parts h)
+pub batch_read : (old new : List Entry) (body rest : List ℕ) (b : BatchAdded old new body rest)
+    → Seals (text_of b.entries) rest → IsReadable body
+batch_read old new body rest b seal = (b.entries, added_batch old new body rest b seal)
 
-pub batch_read : (old new : List Entry) (body rest : List ℕ) → BatchAdded old new body rest → rest ≡ []
-    → IsReadable body
-batch_read old new body rest b none = (
-  b.entries,
-  record {
-    entries = b.are;
-    fits = b.fit;
-    text = b.parts ∙ ap (λ (t : List ℕ). text_of b.entries ++ t) none ∙ append-nil (text_of b.entries);
-  },
-)
+-- what is left is no seal, and no entry
+pub not_sealed : (old new : List Entry) (body rest : List ℕ) (b : BatchAdded old new body rest) (text : List ℕ)
+    → text ≡ text_of b.entries → ¬ (HasMore rest) → ¬ (Seals text rest) → ¬ (IsReadable body)
+not_sealed old new body rest b text is none bad h =
+    bad (subst (λ (t : List ℕ). Seals t rest) (sym is) (rest_seals b.entries rest none (left_of old new body rest b h)))
 
 -- ---- a journal
 
 -- the first batch of a whole journal, and what is behind it
 pub whole_parts : (rest body behind : List ℕ) → IsBody body → rest ≡ open_batch body ++ behind → IsWholeJournal rest
     → IsReadable body × IsWholeJournal behind
-whole_parts rest body behind sized is w = of w.bodies w.batches w.readable
+whole_parts rest body behind sized is w = of w.bodies w.batches w.readable w.nothing_hidden
   where
-    of : (bodies : List (List ℕ)) → HasBatches rest bodies → AllByRecursion IsReadable bodies
-        → IsReadable body × IsWholeJournal behind
-    of [] h all = absurd (h.closed body behind sized (sym h.text ∙ is))
-    of (b ∷ bodies) h all =
+    of : (bodies : List (List ℕ)) (h : HasBatches rest bodies) → AllByRecursion IsReadable bodies
+        → ¬ (HidesBatches h.tail) → IsReadable body × IsWholeJournal behind
+    of [] h all shows = absurd (h.closed body behind sized (sym h.text ∙ is))
+    of (b ∷ bodies) h all shows =
         let same = same_batch body b behind (batches_text bodies ++ h.tail) sized h.sized.0
         (sym is ∙ h.text ∙ append_assoc (open_batch b) (batches_text bodies) h.tail) in (
           subst IsReadable (sym same.0) all.0,
@@ -128,6 +96,7 @@ whole_parts rest body behind sized is w = of w.bodies w.batches w.readable
             bodies = bodies;
             batches = record { tail = h.tail; text = same.1; closed = h.closed; sized = h.sized.1 };
             readable = all.1;
+            nothing_hidden = shows;
           },
         )
 
@@ -147,12 +116,28 @@ next_readable old new file rest body behind j (sized, is) w =
     (whole_parts rest body behind sized is (whole_behind j.bodies rest j.sized (subst IsWholeJournal j.parts w))).0
 
 pub journal_read : (old new : List Entry) (file rest : List ℕ) → JournalAdded old new file rest → IsClosed rest
-    → IsWholeJournal file
-journal_read old new file rest j closed = record {
+    → ¬ (HidesBatches rest) → IsWholeJournal file
+journal_read old new file rest j closed shows = record {
   bodies = j.bodies;
   batches = record { tail = rest; text = j.parts; closed = closed; sized = j.sized };
   readable = j.readable;
+  nothing_hidden = shows;
 }
+
+-- no batch is at the beginning of a whole journal: it is the tail
+tail_shows : (rest : List ℕ) → IsClosed rest → IsWholeJournal rest → ¬ (HidesBatches rest)
+tail_shows rest closed w hides = of w.bodies w.batches w.nothing_hidden
+  where
+    of : (bodies : List (List ℕ)) (h : HasBatches rest bodies) → ¬ (HidesBatches h.tail) → ⊥
+    of [] h shows = shows (subst HidesBatches h.text hides)
+    of (b ∷ bodies) h shows =
+        closed b (batches_text bodies ++ h.tail) h.sized.0
+        (h.text ∙ append_assoc (open_batch b) (batches_text bodies) h.tail)
+
+pub not_whole : (old new : List Entry) (file rest : List ℕ) → JournalAdded old new file rest → IsClosed rest
+    → HidesBatches rest → ¬ (IsWholeJournal file)
+not_whole old new file rest j closed hides w =
+    tail_shows rest closed (whole_behind j.bodies rest j.sized (subst IsWholeJournal j.parts w)) hides
 
 -- an entry that is canonical is a record
 pub entry_formed : (e : Entry) → IsEntry e → AnyOf WellFormed e.octets
@@ -168,14 +153,14 @@ pub entry_fits : (e : Entry) → IsEntry e
 entry_fits e (r, is) long fits =
     let above = long r e (canonical_well_formed r e.octets is.valid is.canonical) is in omega arith
 
--- the journal that an opening gave is damaged
-pub opening_refuted : (tells failed : Type 0) (state : State) (number : ℕ) (text : List ℕ) (fault : OpenFault)
-    → (tells → IsSound state → GivesNewest state number text) → Refutes number (IsWholeJournal text) fault
+-- the journal that was read is damaged
+pub opening_refuted : (tells failed : Type 0) (state : State) (number : ℕ) (octets : List ℕ) (fault : OpenFault)
+    → (tells → IsSound state → IsNewestShown state number octets) → Refutes number (IsWholeJournal octets) fault
     → IsOpeningCause tells failed state fault
-opening_refuted tells failed state number text (Store fault) newest bad = absurd bad
-opening_refuted tells failed state number text (Damaged at fault) newest bad = λ told sound. record {
-  text = text;
-  newest = subst (λ (n : ℕ). GivesNewest state n text) (sym bad.0) (newest told sound);
+opening_refuted tells failed state number octets (Store fault) newest bad = absurd bad
+opening_refuted tells failed state number octets (Damaged at fault) newest bad = λ told sound. record {
+  octets = octets;
+  newest = subst (λ (n : ℕ). IsNewestShown state n octets) (sym bad.0) (newest told sound);
   damaged = bad.1;
 }
-opening_refuted tells failed state number text Memory newest bad = tt
+opening_refuted tells failed state number octets Memory newest bad = tt

@@ -21,6 +21,7 @@ use Rattle.archive_text.proofs.Members.{all_append, has_either, has_left, has_ri
 use Rattle.archive_text.proofs.Places.{adds_has}
 use Rattle.archive_text.proofs.Texts.{one_entry_of, text_goes_on, text_some}
 use Rattle.record_store.specs.Holdings.{BatchHas, BatchesHave, IsBatch, IsReadable, JournalHas}
+use Rattle.record_store.specs.Seals.{Seals}
 use Rattle.record_store.proofs.Batches.{batch_has, journal_has, push_has, pushed_either, pushed_has}
 use Rattle.durable_store.specs.Recovery.{Adds}
 
@@ -104,20 +105,18 @@ batch_more old mid new body rest behind e b begins adds = record {
       (has_push b.entries e);
 }
 
-pub batch_whole : (old new : List Entry) (body rest : List ℕ) → BatchAdded old new body rest → rest ≡ []
-    → Adds old new (BatchHas body)
-batch_whole old new body rest b none =
-    let batch : IsBatch b.entries body = record {
-      entries = b.are;
-      fits = b.fit;
-      text = b.parts ∙ ap (λ (t : List ℕ). text_of b.entries ++ t) none ∙ append-nil (text_of b.entries);
-    } in
+-- with what seals them, they are the batch
+pub added_batch : (old new : List Entry) (body rest : List ℕ) (b : BatchAdded old new body rest)
+    → Seals (text_of b.entries) rest → IsBatch b.entries body
+added_batch old new body rest b seal =
+    record { entries = b.are; fits = b.fit; behind = rest; text = b.parts; seal = seal }
+
+pub batch_whole : (old new : List Entry) (body rest : List ℕ) (b : BatchAdded old new body rest)
+    → Seals (text_of b.entries) rest → Adds old new (BatchHas body)
+batch_whole old new body rest b seal =
+    let batch = added_batch old new body rest b seal in
     adds_same old new (Has b.entries) (BatchHas body)
     (λ e. (λ h. record { entries = b.entries; batch = batch; has = h }, λ h. batch_has b.entries body e batch h)) b.adds
-
-pub no_octets : (octets : List ℕ) → length octets ≡ 0 → octets ≡ []
-no_octets [] none = refl
-no_octets (x ∷ octets) none = absurd (omega (arith, none))
 
 -- ---- a journal
 

@@ -7,7 +7,7 @@ use Rattle.archive_text.specs.Entries.{Entry}
 use Rattle.record_store.specs.Causes.{Causes, IsCause, IsFileCause, TellsFull as StoreTellsFull, opening_causes}
 use Rattle.record_store.specs.Holdings.{IsWholeJournal}
 use Rattle.record_store.specs.Keeping.{ShowsOther}
-use Rattle.record_store.specs.Shown.{GivesNewest}
+use Rattle.record_store.specs.Shown.{IsNewestShown}
 use Rattle.record_store.specs.Stores.{AreAmong, IsBroken, Sets, Stands as JournalStands, number_of}
 use Rattle.record_store.specs.declared.keeping.KeepFault.{KeepFault}
 use Rattle.record_store.specs.declared.keeping.KeepFault.TheVariants.{Disk, Day, Differs}
@@ -24,11 +24,17 @@ abbrev pub TellsFull : CheckpointFault → Type 0
 TellsFull (Store fault) = StoreTellsFull fault
 TellsFull (Segment fault) = fault ≡ Disk Full
 
--- the newest journal that is shown has this number, and a batch of it is no sequence of entries
+-- the newest journal that is shown has this number, and is not whole
 pub record ShowsDamaged (state : State) (number : ℕ) : Type 0 where
-  pub text : List ℕ
-  pub newest : GivesNewest state number text
-  pub damaged : ¬ (IsWholeJournal text)
+  pub octets : List ℕ
+  pub newest : IsNewestShown state number octets
+  pub damaged : ¬ (IsWholeJournal octets)
+
+-- damage is told
+abbrev pub IsDamage : OpenFault → Type 0
+IsDamage (Of_store fault) = ⊥
+IsDamage (Damaged number fault) = Unit {0}
+IsDamage Memory = ⊥
 
 -- what has to be so where an opening fails; want of memory needs no cause
 abbrev pub IsOpeningCause : Type 0 → Type 0 → State → OpenFault → Type 0

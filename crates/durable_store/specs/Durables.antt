@@ -7,7 +7,7 @@ use Rattle.archive_text.specs.declared.store.Added.{Added}
 use Rattle.archive_text.specs.declared.store.Added.TheVariants.{New, Held}
 use Rattle.archive_pages.specs.Paged.{entries_in}
 use Rattle.record_store.specs.Holdings.{IsWholeJournal, JournalHas}
-use Rattle.record_store.specs.Shown.{GivesNewest}
+use Rattle.record_store.specs.Shown.{GivesNewest, IsNewestShown}
 use Rattle.record_store.specs.Stores.{IsBroken as IsStoreBroken, Sets, Stands as JournalStands, batch_of, number_of}
 use Rattle.record_store.specs.Stores.{with_waiting}
 use Rattle.record_store.specs.declared.store.RecordStore.{RecordStore}
@@ -35,12 +35,12 @@ pub record Stands (store : DurableStore) (state : State) (sets : Sets) : Type 0 
   pub journal : JournalStands store.store state sets
   pub held : (e : Entry) → Has (entries_of store) e ↔ Has sets.since e
 
--- the entries in memory are those of the batches of the newest journal that is shown, each of which is whole
+-- the entries in memory are those of the batches of the newest journal that is shown, and it is whole
 pub record Recovers (store : DurableStore) (state : State) : Type 0 where
   pub text : List ℕ
   pub newest : GivesNewest state (number_of store.store) text
   pub has : (e : Entry) → Has (entries_of store) e ↔ JournalHas text e
-  pub whole : IsWholeJournal text
+  pub whole : (octets : List ℕ) → IsNewestShown state (number_of store.store) octets → IsWholeJournal octets
 
 -- what becomes of the sets where an entry is added: a new one was received, and waits
 abbrev pub with_added : Sets → Entry → Added → Sets

@@ -1,8 +1,11 @@
 -- Entries are brought into memory.
 use Rattle.std.specs.Prelude.{◌≡◌, ◌↔◌, ◌⊎◌, ℕ, List}
+use Rattle.disk.specs.States.{State}
 use Rattle.archive_text.specs.Entries.{Entry, Has}
 use Rattle.archive_text.specs.Text.{BeginsWithEntry}
 use Rattle.archive_text.specs.declared.limits.TheConstants.{ENTRY_MAX}
+use Rattle.record_store.specs.Holdings.{IsWholeJournal, JournalHas}
+use Rattle.record_store.specs.Shown.{IsNewestShown, ShowsNoJournal}
 use Rattle.durable_store.specs.declared.fault.OpenFault.{OpenFault}
 use Rattle.durable_store.specs.declared.fault.OpenFault.TheVariants.{Store, Damaged, Memory}
 
@@ -23,3 +26,10 @@ Adds old new P = (e : Entry) → Has new e ↔ (Has old e ⊎ P e)
 -- the entry is added that a text begins with, and behind which it goes on so
 abbrev pub AddsFirst : List ℕ → List ℕ → List Entry → List Entry → Type 0
 AddsFirst text behind old new = (e : Entry) × BeginsWithEntry ENTRY_MAX text e behind × Adds old new (λ x. e ≡ x)
+
+-- entries are those of the newest journal that is shown, which is whole; none where none is shown
+pub record IsRecovered (state : State) (es : List Entry) : Type 0 where
+  pub whole : (number : ℕ) (octets : List ℕ) → IsNewestShown state number octets → IsWholeJournal octets
+  pub has : (number : ℕ) (octets : List ℕ) → IsNewestShown state number octets
+      → (e : Entry) → Has es e ↔ JournalHas octets e
+  pub none : ShowsNoJournal state → (e : Entry) → ¬ (Has es e)

@@ -1,6 +1,5 @@
-use archive_text::ArchiveFault;
 use disk::DiskFault;
-use record_store::{KeepFault, StoreFault};
+use record_store::{JournalDamage, KeepFault, StoreFault};
 use std::alloc::AllocError;
 use thiserror::Error;
 
@@ -10,10 +9,9 @@ pub enum OpenFault {
     /// The journal of the store, or its folder, failed.
     #[error("{0}")]
     Store(StoreFault),
-    /// A batch of the journal with this number is no sequence of entries. Positions count octets
-    /// from the start of the journal.
+    /// The journal with this number is damaged; nothing was changed.
     #[error("journal.{number}: {fault}")]
-    Damaged { number: u64, fault: ArchiveFault },
+    Damaged { number: u64, fault: JournalDamage },
     /// An allocation failed.
     #[error("out of memory")]
     Memory,

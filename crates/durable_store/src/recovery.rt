@@ -1,17 +1,22 @@
 //! The entries of a journal's batches are brought into memory.
 ghost use Rattle.std.specs.Prelude.{◌≡◌, ◌≤◌, ◌++◌, IfErr, IfNone, IfOk, IfSome, OnOk, length};
+ghost use Rattle.disk.specs.Calls.{IsUnchanged};
 ghost use Rattle.journal.specs.Batches.{IsBody, IsClosed, open_batch};
+ghost use Rattle.journal.specs.Journals.{IsSound};
 ghost use Rattle.archive_pages.specs.Paged.{entries_in};
 ghost use Rattle.archive_text.specs.Entries.{IsEntry};
 ghost use Rattle.archive_text.specs.EntryViews.{entry_of};
 ghost use Rattle.record_store.specs.Holdings.{BatchHas, IsReadable, IsWholeJournal, JournalHas};
-ghost use Rattle.durable_store.specs.Recovery.{Adds, AddsFirst, BeginsWithSome};
+ghost use Rattle.durable_store.specs.Causes.{IsOpeningCause};
+ghost use Rattle.durable_store.specs.Recovery.{Adds, AddsFirst, BeginsWithSome, IsRecovered};
 ghost use Rattle.durable_store.specs.Recovery.{Refutes};
 
 use crate::fault::OpenFault;
 use archive_pages::PagedArchive;
 use archive_text::{AddFault, ArchiveFault, ENTRY_MAX, EntryView, Store, read_entry};
+use disk::Disk;
 use journal::batch_len;
+use record_store::{JournalDamage, has_entry, hides_batches, newest_journal, seals};
 use std::alloc::Global;
 use syslog_grammar::view;
 
@@ -31,13 +36,13 @@ fn add_entry(
     ensures fault { IfErr result (Refutes number (length entry.now.octets.now ≤ ENTRY_MAX)) }
 {
     let Ok(shown) = view(entry.octets) else {
-        let fault = ArchiveFault::NotCanonical { at };
+        let fault = JournalDamage::Archive(ArchiveFault::NotCanonical { at });
         return Err(OpenFault::Damaged { number, fault });
     };
     match set.add_view(alloc, &shown) {
         Ok(_) => Ok(()),
         Err(AddFault::TooLong) => {
-            let fault = ArchiveFault::EntryTooLong { at };
+            let fault = JournalDamage::Archive(ArchiveFault::EntryTooLong { at });
             Err(OpenFault::Damaged { number, fault })
         }
         Err(AddFault::Memory) => Err(OpenFault::Memory),
@@ -62,7 +67,7 @@ fn add_first<'a>(
             Ok(behind)
         }
         Err(fault) => {
-            let fault = fault.later(at);
+            let fault = JournalDamage::Archive(fault.later(at));
             Err(OpenFault::Damaged { number, fault })
         }
     }
@@ -81,11 +86,18 @@ fn add_batch(
     ensures fault { IfErr result (Refutes number (IsReadable body.now)) }
 {
     let mut rest = body;
-    'entries: while !rest.is_empty() {
+    'entries: while has_entry(rest) {
         let read = (body.len() as u64).saturating_sub(rest.len() as u64);
         rest = add_first(alloc, set, rest, number, offset.saturating_add(read))?;
     }
-    Ok(())
+    let read = body.len().saturating_sub(rest.len());
+    let (text, _) = body.split_at(read);
+    if seals(text, rest) {
+        return Ok(());
+    }
+    let at = offset.saturating_add(read as u64);
+    let fault = JournalDamage::Checksum { at };
+    Err(OpenFault::Damaged { number, fault })
 }
 
 // The first batch, and what is behind it.
@@ -99,8 +111,8 @@ fn first_batch(octets: &[u8]) -> Option<(&[u8], &[u8])>
     Some(behind.split_at(len))
 }
 
-/// Adds the entries of all batches of the journal with this number.
-pub(crate) fn add_batches(
+// Adds the entries of all batches of the journal with this number.
+fn add_batches(
     alloc: Global,
     set: &mut PagedArchive,
     file: &[u8],
@@ -117,5 +129,26 @@ pub(crate) fn add_batches(
         add_batch(alloc, set, body, number, offset)?;
         rest = behind;
     }
+    if hides_batches(rest) {
+        let at = (file.len() as u64).saturating_sub(rest.len() as u64);
+        let fault = JournalDamage::Hidden { at };
+        return Err(OpenFault::Damaged { number, fault });
+    }
     Ok(())
+}
+
+/// Brings the entries of the newest journal that a read shows into memory. It changes nothing.
+pub(crate) fn recover<D: Disk>(alloc: Global, disk: &mut D) -> Result<PagedArchive, OpenFault>
+    ensures recovered { IfOk result (λ set. D.tells disk.new → IsSound (D.state disk.old)
+        → IsRecovered (D.state disk.old) (entries_in set)) }
+    ensures same { D.tells disk.new → IsUnchanged (D.state disk.old) (D.state disk.new) }
+    ensures told { D.tells disk.new → D.tells disk.old }
+    ensures cause { IfErr result (IsOpeningCause (D.tells disk.new) (D.has_failed disk.new)
+        (D.state disk.old)) }
+{
+    let mut set = PagedArchive::new(alloc);
+    if let Some((number, octets)) = newest_journal(alloc, disk)? {
+        add_batches(alloc, &mut set, &octets, number)?;
+    }
+    Ok(set)
 }

@@ -1,5 +1,6 @@
 //! A durable store.
 ghost use Rattle.std.specs.Prelude.{◌≡◌, ◌↔◌, [], List, IfErr, IfOk, IsErr, IsTrue, OnErr, OnOk, length};
+ghost use Rattle.disk.specs.Calls.{IsUnchanged};
 ghost use Rattle.disk.specs.States.{State};
 ghost use Rattle.journal.specs.Batches.{batches_text};
 ghost use Rattle.journal.specs.Journals.{IsSound};
@@ -7,11 +8,11 @@ ghost use Rattle.archive_text.specs.Entries.{Entry};
 ghost use Rattle.record_store.specs.Causes.{IsCause, commit_causes, opening_causes};
 ghost use Rattle.record_store.specs.Crashes.{Keeps};
 ghost use Rattle.record_store.specs.Stores.{IsReady, Sets, all_committed, begun};
-ghost use Rattle.durable_store.specs.Causes.{IsOpeningCause};
+ghost use Rattle.durable_store.specs.Causes.{IsDamage, IsOpeningCause};
 ghost use Rattle.durable_store.specs.Durables.{IsBroken, Recovers, Stands, entries_of, journal_store, waiting_of};
 
 use crate::fault::OpenFault;
-use crate::recovery::add_batches;
+use crate::recovery::recover;
 use archive_pages::PagedArchive;
 use disk::Disk;
 use record_store::{RecordStore, StoreFault, open};
@@ -39,7 +40,8 @@ impl DurableStore {
     /// say so only if no sync has failed since the machine was started.
     ///
     /// # Errors
-    /// The disk's fault, lack of memory, or a journal that is too long or damaged.
+    /// The disk's fault, lack of memory, or a journal that is too long or damaged. A damaged one is
+    /// told before anything is changed.
     pub fn open<D: Disk>(alloc: Global, disk: &mut D) -> Result<DurableStore, OpenFault>
         ensures opened { IfOk result (λ store. D.tells disk.new → IsSound (D.state disk.old)
             → (committed received : List Entry) → Keeps (D.state disk.old) committed received
@@ -53,13 +55,14 @@ impl DurableStore {
             → Keeps (D.state disk.new) committed received }
 
         ensures whole { IfOk result (λ store. ¬ (IsBroken store)) }
+        ensures damaged { IfErr result (λ fault. IsDamage fault → D.tells disk.new
+            → IsUnchanged (D.state disk.old) (D.state disk.new)) }
         ensures told { D.tells disk.new → D.tells disk.old }
         ensures cause { IfErr result (IsOpeningCause (D.tells disk.new) (D.has_failed disk.new)
             (D.state disk.old)) }
     {
-        let (store, batches) = open(alloc, disk)?;
-        let mut set = PagedArchive::new(alloc);
-        add_batches(alloc, &mut set, &batches, store.number())?;
+        let set = recover(alloc, disk)?;
+        let (store, _) = open(alloc, disk)?;
         Ok(DurableStore {
             set,
             store,

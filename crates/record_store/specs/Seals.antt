@@ -9,6 +9,10 @@ use Rattle.journal.specs.Batches.{IsBody, open_batch}
 abbrev pub seal_of : List ℕ → List ℕ
 seal_of text = 35 ∷ to_le_bytes w32 (length text) ++ to_le_bytes w32 (crc32c text)
 
+-- a text and its seal
+abbrev pub sealed : List ℕ → List ℕ
+sealed text = text ++ seal_of text
+
 -- behind a text is its seal, or nothing, as older programs wrote it
 abbrev pub Seals : List ℕ → List ℕ → Type 0
 Seals text behind = (behind ≡ []) ⊎ (behind ≡ seal_of text)
@@ -21,7 +25,7 @@ HasMore (octet ∷ behind) = octet ≢ 35
 -- a body is a text and its seal
 pub record IsSealed (body : List ℕ) : Type 0 where
   pub text : List ℕ
-  pub text_is : body ≡ text ++ seal_of text
+  pub text_is : body ≡ sealed text
 
 -- ---- what is behind the batches of a journal
 

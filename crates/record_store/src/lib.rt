@@ -1,8 +1,9 @@
 //! A durable store of syslog records: a folder that holds a set of records through crashes.
 //!
-//! A folder has journals (`journal.N`: batches of records in the order in which they came) and
-//! segments (`DAY.HEX.archive`: archives of the records of a day, complete from the moment they
-//! have their name). It holds what these hold; files with other names count for nothing.
+//! A folder has journals (`journal.N`: batches of records in the order in which they came, each with
+//! its seal, a length and a checksum) and segments (`DAY.HEX.archive`: archives of the records of a
+//! day, complete from the moment they have their name). It holds what these hold; files with other
+//! names count for nothing.
 //!
 //! Whenever a crash comes, what the folder holds afterwards is a set S with committed ⊆ S ⊆
 //! received. Each call of [`RecordStore`] says so of every state that it may end with, so of every
@@ -28,7 +29,7 @@ pub use fault::{AppendFault, StoreFault};
 pub use journal_damage::JournalDamage;
 pub use keeping::KeepFault;
 pub use law::{after_a_crash, after_a_restart};
-pub use opening::open;
+pub use opening::{newest_journal, open};
 pub use putting::put;
 pub use sealing::{has_entry, hides_batches, seals};
 pub use segment::{SegmentDraft, SegmentFault};

@@ -1,5 +1,6 @@
 //! A store is opened.
-ghost use Rattle.std.specs.Prelude.{◌≡◌, ◌↔◌, [], List, ℕ, Some, IfErr, IfOk, IsErr, OnOk};
+ghost use Rattle.std.specs.Prelude.{◌≡◌, ◌↔◌, [], List, ℕ, Some, IfErr, IfNone, IfOk, IfSome, IsErr, OnOk};
+ghost use Rattle.disk.specs.Calls.{IsUnchanged};
 ghost use Rattle.disk.specs.Memory.{shown_now};
 ghost use Rattle.journal.specs.Journals.{IsSound, OpensOn, SettlesOthers, name_of};
 ghost use Rattle.archive_text.specs.Entries.{Entry, Has};
@@ -8,7 +9,7 @@ ghost use Rattle.record_store.specs.Causes.{opening_causes, shown_causes};
 ghost use Rattle.record_store.specs.Crashes.{Keeps};
 ghost use Rattle.record_store.specs.Holdings.{JournalHas};
 ghost use Rattle.record_store.specs.Names.{IsJournal};
-ghost use Rattle.record_store.specs.Shown.{GivesNewest, GivesShown, IsNewestShown, ShowsTheBatches};
+ghost use Rattle.record_store.specs.Shown.{GivesNewest, GivesShown, IsNewestShown, ShowsNoJournal, ShowsTheBatches};
 ghost use Rattle.record_store.specs.Shown.{ShowsWithin};
 ghost use Rattle.record_store.specs.Stores.{AreAmong, IsBroken, Stands, begun, number_of};
 
@@ -16,7 +17,7 @@ use crate::RecordStore;
 use crate::fault::StoreFault;
 use crate::names::{name_of_journal, newest};
 use disk::{Disk, FileName};
-use journal::{Journal, JournalFault};
+use journal::{Journal, JournalFault, read_octets};
 use std::alloc::Global;
 
 // Opens the journal that a read shows under a name, once what is shown is on the disk.
@@ -136,6 +137,38 @@ pub fn open<D: Disk>(alloc: Global, disk: &mut D) -> Result<(RecordStore, Vec<u8
     match newest(&names) {
         Some(number) => open_journal(alloc, disk, number),
         None => Ok((RecordStore::begin(alloc, disk)?, Vec::new(alloc))),
+    }
+}
+
+/// Reads the newest journal that a read shows, and gives its number and its octets; None where there
+/// is none. It changes nothing.
+///
+/// # Errors
+/// The disk's fault, lack of memory, or a journal that is too long to be opened.
+pub fn newest_journal<D: Disk>(
+    alloc: Global,
+    disk: &mut D,
+) -> Result<Option<(u64, Vec<u8>)>, StoreFault>
+    ensures some { IfOk result (λ found. IfSome found (λ r. D.tells disk.new
+        → IsSound (D.state disk.old) → IsNewestShown (D.state disk.old) r.0 r.1.items)) }
+    ensures none { IfOk result (λ found. IfNone found (D.tells disk.new
+        → IsSound (D.state disk.old) → ShowsNoJournal (D.state disk.old))) }
+    ensures same { D.tells disk.new → IsUnchanged (D.state disk.old) (D.state disk.new) }
+    ensures told { D.tells disk.new → D.tells disk.old }
+    ensures cause { IfErr result (IsCause
+        (opening_causes (D.tells disk.new) (D.has_failed disk.new) (D.state disk.old))) }
+{
+    let names = match disk.names(alloc) {
+        Ok(names) => names,
+        Err(fault) => return Err(StoreFault::Folder { fault }),
+    };
+    let Some(number) = newest(&names) else {
+        return Ok(None);
+    };
+    let name = name_of_journal(alloc, number)?;
+    match read_octets(alloc, disk, &name) {
+        Ok(octets) => Ok(Some((number, octets))),
+        Err(fault) => Err(StoreFault::Journal { number, fault }),
     }
 }
 

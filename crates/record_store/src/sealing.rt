@@ -26,7 +26,7 @@ const HEAD: usize = 5;
 
 // the seal of a text
 fn seal(text: &[u8]) -> [u8; SEAL_LEN]
-    ensures { result.items ≡ seal_of text.now }
+    ensures { result ≡ seal_of text.now }
 {
     let len = (text.len() as u64).to_le_bytes();
     let sum = crc32c(text).to_le_bytes();

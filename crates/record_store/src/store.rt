@@ -1,13 +1,15 @@
 //! A store that is written.
-ghost use Rattle.std.specs.Prelude.{◌≡◌, ◌↔◌, [], List, IfErr, IfOk, IsErr, IsErrOf, OnErr, OnOk};
+ghost use Rattle.std.specs.Prelude.{◌≡◌, ◌≢◌, ◌↔◌, ◌++◌, ◌∷◌, [], List, ℕ, IfErr, IfOk, IsErr, IsErrOf, OnErr, OnOk};
 ghost use Rattle.disk.specs.States.{State};
-ghost use Rattle.journal.specs.Journals.{IsSound};
+ghost use Rattle.journal.specs.Journals.{IsSound, Stands as JournalStands};
 ghost use Rattle.archive_text.specs.Entries.{Entry, IsEntry};
 ghost use Rattle.record_store.specs.Causes.{IsCause, commit_causes, first_causes};
 ghost use Rattle.record_store.specs.Crashes.{Keeps};
+ghost use Rattle.record_store.specs.Seals.{sealed};
 ghost use Rattle.record_store.specs.Shown.{ShowsNoJournal, ShowsWithin};
 ghost use Rattle.record_store.specs.Stores.{AreAmong, IsAppendFault, IsBroken, Sets, Stands};
-ghost use Rattle.record_store.specs.Stores.{all_committed, batch_of, begun, number_of, with_waiting};
+ghost use Rattle.record_store.specs.Stores.{all_committed, batch_of, begun, journal_of, number_of};
+ghost use Rattle.record_store.specs.Stores.{with_waiting};
 
 use crate::batch::put_entry;
 use crate::fault::{AppendFault, StoreFault};
@@ -109,6 +111,12 @@ impl RecordStore {
             → Stands self.old (D.state disk.old) sets
             → Keeps (D.state disk.new) sets.committed sets.received }
 
+        // with its seal
+        ensures sealed { OnOk result (D.tells disk.new → (bodies : List (List ℕ))
+            → JournalStands (journal_of self.old) (D.state disk.old) bodies
+            → batch_of self.old ≢ [] → JournalStands (journal_of self.new) (D.state disk.new)
+            (bodies ++ sealed (batch_of self.old) ∷ [])) }
+
         ensures idle { batch_of self.old ≡ [] → disk.new ≡ disk.old }
         ensures broken { IsErrOf result StoreFault.Broken ↔ IsBroken self.old }
         ensures breaks { IsErr result ↔ IsBroken self.new }
@@ -123,9 +131,12 @@ impl RecordStore {
             return Ok(());
         }
         let len = self.batch.len();
-        if put_seal(&mut self.batch).is_err() {
-            self.broken = true;
-            return Err(StoreFault::Memory);
+        match put_seal(&mut self.batch) {
+            Ok(()) => {}
+            Err(_) => {
+                self.broken = true;
+                return Err(StoreFault::Memory);
+            }
         }
         match self.journal.commit(alloc, disk, &self.batch) {
             Ok(()) => {

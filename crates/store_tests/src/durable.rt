@@ -2,7 +2,7 @@ use archive_text::{AddFault, Added, Store};
 use disk::{Disk, FileName, Fuse, MemoryDisk};
 use durable_store::{DurableStore, OpenFault};
 use octet_devices::ToWrite;
-use record_store::StoreFault;
+use record_store::{JournalDamage, StoreFault};
 use std::alloc::Global;
 use std::test::Fail;
 use syslog_grammar::view;
@@ -14,6 +14,9 @@ const SECOND: &[u8] = b"<14>1 2024-02-29T23:30:00.000000Z h a - - - y";
 const THIRD: &[u8] = b"<14>1 2024-03-01T00:30:00.000000Z h a - - - z";
 
 const FOURTH: &[u8] = b"<14>1 2024-03-01T00:31:00.000000Z h a - - - w";
+
+// the CRC-32C of the entry of FIRST
+const FIRST_SUM: u32 = 0x1472_fee5;
 
 // adds the record of these octets
 fn add(alloc: Global, store: &mut DurableStore, octets: &[u8]) -> Result<Added, Fail> {
@@ -189,7 +192,7 @@ fn a_second_crash_may_come_in_the_recovery(rt: HostRuntime) -> Result<(), Fail> 
     let alloc = rt.alloc();
     for calls in 0..6 {
         for more in 0..8 {
-            for octet in [None, Some(0), Some(1)] {
+            for octet in [None, Some(254), Some(1)] {
                 let (disk, mut store) = begun(alloc)?;
                 let mut fuse = Fuse::new(disk, calls);
                 let done = store.commit(alloc, &mut fuse).is_ok();
@@ -205,6 +208,89 @@ fn a_second_crash_may_come_in_the_recovery(rt: HostRuntime) -> Result<(), Fail> 
                 assert!(rt; opened.len() <= 3, "at {calls}, {more}");
             }
         }
+    }
+    Ok(())
+}
+
+// the file of the first journal
+fn journal(alloc: Global, disk: &mut MemoryDisk) -> Result<Vec<u8>, Fail> {
+    let name = FileName::new(alloc, b"journal.1")?.ok_or("no name")?;
+    let mut piece = [0u8; 256];
+    let n = disk.read(&name, 0, &mut piece)?;
+    Ok(piece.get(..n).ok_or("too long")?.to_vec(alloc)?)
+}
+
+// a folder with this journal
+fn with_journal(alloc: Global, octets: &[u8]) -> Result<MemoryDisk, Fail> {
+    let name = FileName::new(alloc, b"journal.1")?.ok_or("no name")?;
+    let mut disk = MemoryDisk::new(alloc);
+    disk.create(&name)?;
+    disk.append(&name, octets)?;
+    disk.sync(&name)?;
+    disk.sync_names()?;
+    Ok(disk)
+}
+
+// A batch is its entries, and their length and CRC-32C behind '#'; behind the batches is 254.
+#[test]
+fn a_batch_is_sealed(rt: HostRuntime) -> Result<(), Fail> {
+    let alloc = rt.alloc();
+    let mut disk = MemoryDisk::new(alloc);
+    let mut store = DurableStore::open(alloc, &mut disk)?;
+    add(alloc, &mut store, FIRST)?;
+    store.commit(alloc, &mut disk)?;
+    let mut want = b"\x01\x1c\0\0\0".to_vec(alloc)?;
+    want.extend_from_slice(b"16 <0>1 - - - - - -#\x13\0\0\0")?;
+    want.extend_from_slice(&FIRST_SUM.to_le_bytes())?;
+    want.push(254)?;
+    assert!(rt; journal(alloc, &mut disk)? == want);
+    Ok(())
+}
+
+// A journal of an older program is read, and goes on with batches that are sealed.
+#[test]
+fn an_older_journal_goes_on(rt: HostRuntime) -> Result<(), Fail> {
+    let alloc = rt.alloc();
+    let older = b"\x01\x13\0\0\016 <0>1 - - - - - -\0\x05\0\0\0torn";
+    let mut disk = with_journal(alloc, older)?;
+    let mut store = DurableStore::open(alloc, &mut disk)?;
+    assert_eq!(rt; store.len(), 1);
+    let opened = journal(alloc, &mut disk)?;
+    assert!(rt; opened.len() == 25 && opened[..24] == older[..24] && opened[24] == 254);
+    add(alloc, &mut store, SECOND)?;
+    store.commit(alloc, &mut disk)?;
+    let again = DurableStore::open(alloc, &mut disk)?;
+    assert!(rt; text(alloc, &again)? == text(alloc, &store)?);
+    assert_eq!(rt; again.len(), 2);
+    Ok(())
+}
+
+// An octet of a journal has another value: damage is told, and nothing is changed.
+#[test]
+fn a_damaged_journal_is_told_first(rt: HostRuntime) -> Result<(), Fail> {
+    let alloc = rt.alloc();
+    let (mut disk, mut store) = begun(alloc)?;
+    store.commit(alloc, &mut disk)?;
+    let whole = journal(alloc, &mut disk)?;
+    let rows = [
+        (0, 254, JournalDamage::Hidden { at: 0 }),
+        (0, 3, JournalDamage::Hidden { at: 0 }),
+        (1, 0, JournalDamage::Hidden { at: 5 }),
+        (52, b'x', JournalDamage::Checksum { at: 72 }),
+        (73, 0, JournalDamage::Checksum { at: 72 }),
+        (77, 0, JournalDamage::Checksum { at: 72 }),
+    ];
+    for (at, octet, fault) in rows {
+        let mut octets = whole.clone()?;
+        octets[at] = octet;
+        let mut disk = with_journal(alloc, &octets)?;
+        let told = match DurableStore::open(alloc, &mut disk) {
+            Ok(_) => None,
+            Err(told) => Some(told),
+        };
+        let want = OpenFault::Damaged { number: 1, fault };
+        assert!(rt; told == Some(want), "at {at}");
+        assert!(rt; journal(alloc, &mut disk)? == octets, "at {at}");
     }
     Ok(())
 }

@@ -3,7 +3,7 @@ use journal::{Journal, batch_len, open, settle};
 use std::alloc::Global;
 use std::test::Fail;
 
-// a batch, and behind it a closed octet and a batch that was never opened
+// a batch, and behind it the closed octet of older programs and a batch that was never opened
 const TORN: [u8; 15] = [1, 2, 0, 0, 0, b'a', b'b', 0, 3, 0, 0, 0, b'x', b'y', b'z'];
 
 fn named(alloc: Global) -> Result<FileName, Fail> {
@@ -24,6 +24,7 @@ fn a_torn_batch_is_cut(rt: HostRuntime) -> Result<(), Fail> {
     assert_eq!(rt; batch_len(&batches), Some(2));
     let mut buf = [0u8; 16];
     assert_eq!(rt; disk.read(&name, 0, &mut buf)?, 8);
+    assert_eq!(rt; buf[7], 254);
     Ok(())
 }
 
