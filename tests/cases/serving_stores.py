@@ -6,11 +6,12 @@ import socket
 import subprocess
 import threading
 
-from cases.rows import A, invalid
+from cases.rows import A, Y, entries, invalid
 from lib.loopback import HERE, kind_of
 from lib.reference import counted, framed
 from lib.server import SOON, any_port, numbered, spelled, until
-from lib.store_format import HEAD, JOURNAL, SEGMENT, files_of, held, is_named_right
+from lib.store_format import CLOSED, HEAD, JOURNAL, OLDER_CLOSED, SEAL, SEGMENT, files_of, held, is_named_right, open_batch
+from lib.store_format import seal_of
 from lib.stores import Keeper, records
 
 ALL = [*any_port("udp"), *any_port("counted"), *any_port("lf")]
@@ -134,6 +135,37 @@ def damage(runs, store, text, segments):
     runs.results.same("as it was: read", runs.program.run(["read", str(store)]), (0, text, b""))
 
 
+def begins_on_none(runs, store, journal, whole):
+    """No server begins on a journal of which one bit has changed, and it changes nothing: it tells the file and the octet."""
+    text = len(whole) - 1 - SEAL
+    for at, bit, words in [(0, 1, "a batch that is not open at 0"), (0, 7, "a batch that is not open at 0"),
+                           (text - 1, 0, f"another checksum at {text}"), (text + 1, 3, f"another checksum at {text}"),
+                           (text + SEAL - 1, 7, f"another checksum at {text}")]:
+        octets = bytearray(whole)
+        octets[at] ^= 1 << bit
+        (store / journal.decode()).write_bytes(octets)
+        before = files_of(store)
+        name = f"bit {bit} of octet {at} of a journal"
+        runs.refused(name, any_port("lf"), store, f"{journal.decode()}: {words}", store=store)
+        runs.results.check(f"{name}: nothing is changed", files_of(store) == before)
+
+
+def older_journal(runs):
+    """A journal of an older program, which has no checksums, is read, and goes on with batches that have them."""
+    older = open_batch(entries(A)) + bytes([OLDER_CLOSED])
+    store = runs.store()
+    store.mkdir(mode=0o700)
+    (store / "journal.1").write_bytes(older)
+    runs.results.same("an older journal: read", runs.program.run(["read", str(store)]), (0, entries(A), b""))
+    with runs.until_eof(*any_port("lf"), *SOON, store=store) as server:
+        server.send("lf", Y + b"\n")
+        runs.holds("an older journal goes on", server, A, Y)
+        runs.ends("an older journal", server, 0)
+    text = framed("counted", Y)
+    right = open_batch(entries(A)) + open_batch(text + seal_of(text)) + bytes([CLOSED])
+    runs.results.same("an older journal, and a batch with its checksum", (store / "journal.1").read_bytes(), right)
+
+
 def damaged_journal(runs):
     """A journal that is damaged is told by `verify` and by `read`, and no server begins on it."""
     with runs.until_eof(*any_port("lf"), *SOON) as server:
@@ -150,6 +182,7 @@ def damaged_journal(runs):
         answer = runs.program.run(["read", str(server.store)])
         runs.results.same(f"a damaged journal, {octet}: read", answer, (1, b"", line))
         runs.refused(f"a damaged journal, {octet}", any_port("lf"), server.store, journal.decode(), store=server.store)
+    begins_on_none(runs, server.store, journal, whole)
     path.write_bytes(whole)
     runs.results.same("a journal as it was", runs.verify(server.store), (0, b"", b""))
 
@@ -322,4 +355,4 @@ def options(runs):
         runs.results.check(f"serve {words}", right, f"{status} {output} {notes}")
 
 
-KEPT = [kills, checkpoints, damaged_journal, full, full_mount, failing, second, ports, paths, folders, options]
+KEPT = [kills, checkpoints, damaged_journal, older_journal, full, full_mount, failing, second, ports, paths, folders, options]

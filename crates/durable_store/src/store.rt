@@ -62,7 +62,7 @@ impl DurableStore {
             (D.state disk.old)) }
     {
         let set = recover(alloc, disk)?;
-        let (store, _) = open(alloc, disk)?;
+        let (store, _batches) = open(alloc, disk)?;
         Ok(DurableStore {
             set,
             store,

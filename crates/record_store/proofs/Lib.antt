@@ -7,7 +7,7 @@ pub mod Creating
 pub mod Differing
 pub mod Drafted
 pub mod Folders
-pub mod Hidden
+pub mod Hiding
 pub mod Leavings
 pub mod Named
 pub mod Naming
