@@ -1,6 +1,11 @@
 //! `verify`: which files of a store are damaged.
-ghost use Rattle.std.specs.Prelude.{◌≡◌, IfOk};
+ghost use Rattle.std.specs.Prelude.{◌≡◌, IfErr, IfOk, OnOk};
+ghost use Rattle.set_engine.specs.Ended.{Tells};
 ghost use Rattle.store_engine.specs.Lines.{damage_lines};
+<<<<<<< HEAD
+=======
+ghost use Rattle.store_engine.specs.Reading.{read_telling};
+>>>>>>> reading
 ghost use Rattle.store_engine.specs.Verifying.{IsVerdictStatus, RanVerify};
 
 use crate::lines::damaged_line;
@@ -29,6 +34,25 @@ fn verdict(damaged: &[DamagedFile]) -> u8
     if damaged.is_empty() { DONE } else { REFUSED }
 }
 
+// Ends a verification, which found these files to be damaged: by their verdict, or by the fault that stopped
+// it.
+fn end<N: Output>(
+    alloc: Global,
+    verified: &Result<(), ReadFault>,
+    damaged: &[DamagedFile],
+    diagnostics: &mut N,
+) -> u8
+    ensures done { OnOk verified.now (IsVerdictStatus damaged.now result
+        × (N.state diagnostics.new ≡ N.state diagnostics.old)) }
+    ensures told { IfErr verified.now (λ fault. Tells read_telling fault (N.state diagnostics.old)
+        (N.state diagnostics.new) result) }
+{
+    match verified {
+        Ok(()) => verdict(damaged),
+        Err(fault) => report_read_fault(alloc, fault, diagnostics),
+    }
+}
+
 /// Writes a line for each file of a store that is damaged, in the order of their names. Returns the exit
 /// status: `DONE` if none is, `REFUSED` if one is; `FAULT` if a file or a device failed, `NO_MEMORY` if
 /// memory ran out. A line on the diagnostics says what went wrong, after those on the files before.
@@ -50,11 +74,8 @@ pub fn verify_store<F: Folder, W: Output, N: Output>(
     let Ok(lines) = lines_on(alloc, &damaged) else {
         return report_read_fault(alloc, &ReadFault::Memory, diagnostics);
     };
-    if write_all(output, &lines).is_err() {
+    if let Err(_) = write_all(output, &lines) {
         return report_read_fault(alloc, &ReadFault::Write, diagnostics);
     }
-    match verified {
-        Ok(()) => verdict(&damaged),
-        Err(fault) => report_read_fault(alloc, &fault, diagnostics),
-    }
+    end(alloc, &verified, &damaged, diagnostics)
 }

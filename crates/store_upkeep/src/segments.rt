@@ -15,7 +15,10 @@ use crate::stream_disk::StreamDisk;
 use archive_join::{JoinFault, Union, join_streams};
 use disk::{Disk, DiskFault, FileName};
 use std::alloc::{AllocError, Global};
-use store_reading::{Names, Period, ReadFault, check_segment, hash_segment, is_segment_of, join_fault, segment_octets};
+use store_reading::{
+    Names, Period, ReadFault, check_segment, hash_segment, is_segment_of, join_fault,
+    segment_octets,
+};
 
 /// The names of all files, those of the segments of a period side by side, in the order of their
 /// octets.

@@ -10,8 +10,15 @@ ghost use Rattle.store_upkeep.specs.Damages.{OpensOrNone, ReadsOrNone};
 use crate::damage::DamagedFile;
 use disk::FileName;
 use std::alloc::Global;
+<<<<<<< HEAD
 use store_reading::{CheckFault, FileFault, Folder, JournalFile, Period, ReadFault};
 use store_reading::{check_journal, check_segment, is_journal, list, open_file, read_journal, segment_period};
+=======
+use store_reading::{
+    CheckFault, FileFault, Folder, Period, ReadFault, check_segment, is_journal, list, open_file,
+    segment_period,
+};
+>>>>>>> reading
 
 // how often a file is opened that is there and gone
 const OPENINGS: usize = 64;
@@ -78,7 +85,11 @@ fn read_listed<F: Folder>(
 }
 
 // What the check of a file found, or why the file was not read.
-fn found_by(alloc: Global, name: &FileName, fault: CheckFault) -> Result<Option<FileFault>, ReadFault>
+fn found_by(
+    alloc: Global,
+    name: &FileName,
+    fault: CheckFault,
+) -> Result<Option<FileFault>, ReadFault>
     ensures found { IfOk result (IsFoundBy fault) }
     ensures cause { IfErr result (IsCause (open_causes ⊥ name.now)) }
 {

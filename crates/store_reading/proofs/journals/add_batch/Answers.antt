@@ -1,5 +1,4 @@
-use Rattle.std.proofs.Common.{arith, rules, ¬}
-use Rattle.record_store.specs.Seals.{HasMore}
+use Rattle.std.proofs.Common.{◌≡◌, IsTrue, arith, false, rules}
 use Rattle.store_reading.specs.Sources.{set_entries}
 use Rattle.store_reading.specs.Damages.{IsDamagedBatch, Tells}
 use Rattle.store_reading.specs.declared.fault.CheckFault.{CheckFault}
@@ -39,15 +38,16 @@ returns-clause-whole c =
 
 pub returns-clause-damaged : goal.returns-clause-damaged
 returns-clause-damaged c =
+    let off : c.has_entry.result ≡ false = search rules in
     seal_result (set_entries c.args.set.now) (set_entries c.entries.set) c.args.body.now c.entries.rest.now c.args.offset
     c.entries.invariant c.check_seal.result
-    (no_more c.has_entry.result c.entries.rest.now c.has_entry.ensures c.entries-test.false) c.check_seal.ensures.damaged
+    (no_more c.has_entry.result c.entries.rest.now c.has_entry.ensures off) c.check_seal.ensures.damaged
 
 pub returns-in_err-rest-clause-damaged : goal.returns-in_err-rest-clause-damaged
 returns-in_err-rest-clause-damaged c =
-    let more = c.has_entry.ensures.0 c.entries-test.true in
+    let on : IsTrue c.has_entry.result = search rules in
     let fault = c.in_err-rest.field-0.0 in
     at_err c.from_residual.result fault (λ (f : CheckFault). Tells f (IsDamagedBatch c.args.body.now c.args.offset))
     c.from_residual.ensures.1
     (batch_damaged (set_entries c.args.set.now) (set_entries c.entries.set) c.args.body.now c.entries.rest.now
-    c.args.offset c.entries.invariant _ fault more (omega arith) c.in_err-rest.ensures.damaged)
+    c.args.offset c.entries.invariant _ fault (c.has_entry.ensures.0 on) (omega arith) c.in_err-rest.ensures.damaged)
