@@ -4,27 +4,18 @@ use Rattle.std.specs.Prelude.{Err, IfErr, Ok, OnOk, Result}
 use Rattle.std.proofs.lemmas.Grind.{flat_map-append}
 use Rattle.std.proofs.lemmas.List.{append-nil, take_more}
 use Rattle.octet_devices.specs.Device.{OutputState}
-<<<<<<< HEAD
-use Rattle.octet_devices.specs.Transfers.{WroteAll}
-=======
 use Rattle.octet_devices.specs.Transfers.{WroteAll, WrotePart}
 use Rattle.driver.proofs.Known.{wrote_nothing}
 use Rattle.disk.specs.States.{Files}
 use Rattle.set_engine.specs.Ended.{Tells}
->>>>>>> reading
 use Rattle.store_reading.specs.Causes.{IsCause}
 use Rattle.store_reading.specs.declared.fault.ReadFault.{ReadFault}
 use Rattle.store_reading.specs.declared.fault.ReadFault.TheVariants.{Folder, Open, Damaged, Read, Gone, TooManyDays}
 use Rattle.store_reading.specs.declared.fault.ReadFault.TheVariants.{Write, Memory}
-<<<<<<< HEAD
-use Rattle.store_upkeep.specs.Causes.{check_causes}
-use Rattle.store_engine.specs.Verifying.{WritesLines}
-=======
 use Rattle.store_upkeep.specs.Causes.{IsCountedFile, check_causes}
 use Rattle.store_upkeep.specs.Damages.{AreAsTold, IsWholeOrListed}
 use Rattle.store_engine.specs.Reading.{read_telling}
 use Rattle.store_engine.specs.Verifying.{IsVerdictStatus, RanVerify, WritesLines}
->>>>>>> reading
 use Rattle.store_upkeep.specs.declared.damage.DamagedFile.{DamagedFile}
 use Rattle.store_engine.specs.Lines.{damage_lines, file_line}
 
@@ -48,8 +39,6 @@ not_write failed checked Gone w w_new lines cause wrote = wrote
 not_write failed checked TooManyDays w w_new lines cause wrote = wrote
 not_write failed checked Write w w_new lines cause wrote = absurd cause
 not_write failed checked Memory w w_new lines cause wrote = wrote
-<<<<<<< HEAD
-=======
 
 -- of what an empty list became
 pub as_told_first : {tells : Type 0} (files : Files) (old new : List DamagedFile) → old ≡ []
@@ -104,4 +93,3 @@ memory_ran tells failed files w n n_new status told = record {
   outcome = (wrote_nothing w, told);
   cause = inr tt;
 }
->>>>>>> reading

@@ -2,10 +2,7 @@
 ghost use Rattle.std.specs.Prelude.{◌≡◌, IfErr, IfOk, OnOk};
 ghost use Rattle.set_engine.specs.Ended.{Tells};
 ghost use Rattle.store_engine.specs.Lines.{damage_lines};
-<<<<<<< HEAD
-=======
 ghost use Rattle.store_engine.specs.Reading.{read_telling};
->>>>>>> reading
 ghost use Rattle.store_engine.specs.Verifying.{IsVerdictStatus, RanVerify};
 
 use crate::lines::damaged_line;
