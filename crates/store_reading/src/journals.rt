@@ -63,9 +63,9 @@ fn add_first<'a>(
             add_entry(alloc, set, &entry)?;
             Ok(behind)
         }
-        Err(fault) => Err(CheckFault::Damaged(FileFault::Journal(
-            JournalDamage::Archive(fault.later(at)),
-        ))),
+        Err(fault) => Err(CheckFault::Damaged(FileFault::Journal(JournalDamage::Archive(fault.later(
+            at,
+        ))))),
     }
 }
 
@@ -82,9 +82,7 @@ fn check_seal(body: &[u8], rest: &[u8], offset: u64) -> Result<(), CheckFault>
         return Ok(());
     }
     let at = offset.saturating_add(text.len() as u64);
-    Err(CheckFault::Damaged(FileFault::Journal(
-        JournalDamage::Checksum { at },
-    )))
+    Err(CheckFault::Damaged(FileFault::Journal(JournalDamage::Checksum { at })))
 }
 
 // Adds the entries of a batch, which begins at an offset of its journal.
@@ -122,11 +120,7 @@ fn add_batches(alloc: Global, set: &mut PagedArchive, file: &[u8]) -> Result<(),
 }
 
 // Adds the entries of a journal that was read.
-fn add_read(
-    alloc: Global,
-    set: &mut PagedArchive,
-    journal: &JournalFile,
-) -> Result<(), CheckFault>
+fn add_read(alloc: Global, set: &mut PagedArchive, journal: &JournalFile) -> Result<(), CheckFault>
     ensures adds { OnOk result ((file : List ℕ) → IsJournalFile journal.now file
         → Adds (set_entries set.old) (set_entries set.new) (JournalHas file)) }
     ensures whole { OnOk result ((file : List ℕ) → IsJournalFile journal.now file

@@ -331,10 +331,12 @@ fn each_bit_of_a_journal_counts(rt: HostRuntime) -> Result<(), Fail> {
                     same += 1;
                     assert!(rt; text == all, "{at} {bit}");
                 }
-                Err(ReadFault::Damaged {
-                    name: _,
-                    fault: FileFault::Journal(_),
-                }) => assert!(rt; text.is_empty(), "{at} {bit}"),
+                Err(
+                    ReadFault::Damaged {
+                        name: _,
+                        fault: FileFault::Journal(_),
+                    },
+                ) => assert!(rt; text.is_empty(), "{at} {bit}"),
                 Err(_) => assert!(rt; false, "{at} {bit}"),
             }
         }
@@ -348,10 +350,12 @@ fn told(alloc: Global, octets: &[u8]) -> Result<Option<JournalDamage>, Fail> {
     let mut disk = MemoryDisk::new(alloc);
     put(alloc, &mut disk, b"journal.1", &[octets])?;
     match written(alloc, &mut make_view(disk), ALL)?.0 {
-        Err(ReadFault::Damaged {
-            name: _,
-            fault: FileFault::Journal(damage),
-        }) => Ok(Some(damage)),
+        Err(
+            ReadFault::Damaged {
+                name: _,
+                fault: FileFault::Journal(damage),
+            },
+        ) => Ok(Some(damage)),
         _ => Ok(None),
     }
 }

@@ -193,7 +193,10 @@ fn a_batch_that_is_damaged_is_told(rt: HostRuntime) -> Result<(), Fail> {
             damaged.as_slice(),
             [DamagedFile {
                 name: _,
-                damage: FileFault::Journal(JournalDamage::Archive(ArchiveFault::BadEntry { at: 5, .. })),
+                damage: FileFault::Journal(JournalDamage::Archive(ArchiveFault::BadEntry {
+                    at: 5,
+                    ..
+                })),
             }]
         )
     );

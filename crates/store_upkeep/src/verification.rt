@@ -10,8 +10,10 @@ ghost use Rattle.store_upkeep.specs.Damages.{OpensOrNone, ReadsOrNone};
 use crate::damage::DamagedFile;
 use disk::FileName;
 use std::alloc::Global;
-use store_reading::{CheckFault, FileFault, Folder, JournalFile, Period, ReadFault};
-use store_reading::{check_journal, check_segment, is_journal, list, open_file, read_journal, segment_period};
+use store_reading::{
+    CheckFault, FileFault, Folder, JournalFile, Period, ReadFault, check_journal, check_segment,
+    is_journal, list, open_file, read_journal, segment_period,
+};
 
 // how often a file is opened that is there and gone
 const OPENINGS: usize = 64;
