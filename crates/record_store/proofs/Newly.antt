@@ -1,6 +1,6 @@
 -- The names of a folder, and its newest journal.
 use Rattle.std.proofs.Common.{◌≡◌, ℕ, ◌<◌, ◌^◌, List, refl, sym, ◌∙◌}
-use Rattle.std.specs.Prelude.{Contains, Option, None, Some, IsSome}
+use Rattle.std.specs.Prelude.{Contains, Option, None, Some, IsNone, IsSome}
 use Rattle.std.specs.Option.{option_map}
 use Rattle.disk.specs.Calls.{AreNames, IsUnchanged}
 use Rattle.disk.specs.Files.{File}
@@ -18,6 +18,12 @@ some_shown (Some file) some = (file.shown, refl)
 not_shown : (now : Option File) → ¬ (IsSome now) → option_map (λ (f : File). f.shown) now ≡ None
 not_shown None none = refl
 not_shown (Some file) none = absurd (none refl)
+
+-- a file that is shown is there
+pub shown_not_none : (now : Option File) (octets : List ℕ)
+    → option_map (λ (f : File). f.shown) now ≡ Some octets → ¬ (IsNone now)
+shown_not_none None octets shown none = absurd (cc shown)
+shown_not_none (Some file) octets shown none = absurd (cc none)
 
 module _ (state : State) (names : List (List ℕ)) (sound : IsSound state) (are : AreNames state names) where
   not_there : (n : ℕ) → ¬ (Contains names (journal_name n)) → journal_shown state n ≡ None

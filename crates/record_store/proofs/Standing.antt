@@ -109,6 +109,18 @@ module _ (old new : State) (store after : RecordStore) (sets : Sets) (stands : S
           shows = λ sound. ready_shows after new sets.since ready_then;
         }
 
+-- it was not begun
+pub broken_stands : (store after : RecordStore) (state : State) (sets : Sets) → Stands store state sets
+    → after.batch.items ≡ store.batch.items → after.broken ≡ true → Stands after state sets
+broken_stands store after state sets stands same broken = record {
+  keeps = stands.keeps;
+  batch = subst (AreEntries sets.waiting) (sym same) stands.batch;
+  waits = stands.waits;
+  within = stands.within;
+  ready = λ not_broken. absurd (cc (broken, not_broken));
+  shows = stands.shows;
+}
+
 -- nothing waits
 pub no_octets : (octets : List ℕ) → length octets ≡ 0 → octets ≡ []
 no_octets [] none = refl
