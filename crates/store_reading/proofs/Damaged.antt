@@ -43,7 +43,7 @@ use Rattle.store_reading.specs.declared.fault.FileFault.{FileFault}
 use Rattle.store_reading.specs.declared.fault.FileFault.TheVariants.{Archive, Digest, Journal, OtherDay}
 use Rattle.store_reading.proofs.Batched.{BatchAdded, JournalAdded}
 use Rattle.store_reading.proofs.Joined.{rest_of, whole_rest}
-use Rattle.store_reading.proofs.Hidden.{hidden_not_whole}
+use Rattle.store_reading.proofs.Tails.{hidden_not_whole}
 use Rattle.store_reading.proofs.Readable.{IsCheckedUpTo, IsReadUpTo, batch_fault, fault_unreadable, journal_fault}
 use Rattle.store_reading.proofs.Readable.{seal_unreadable, whole_parts}
 

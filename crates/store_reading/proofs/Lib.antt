@@ -6,7 +6,6 @@ pub mod DaysRead
 pub mod Faulted
 pub mod Hashed
 pub mod Held
-pub mod Hidden
 pub mod Joined
 pub mod Mixed
 pub mod NameOrders
@@ -18,5 +17,6 @@ pub mod Readable
 pub mod SameSets
 pub mod SegmentNames
 pub mod Segments
+pub mod Tails
 pub mod Whole
 pub mod Written

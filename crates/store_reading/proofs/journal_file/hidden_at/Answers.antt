@@ -2,7 +2,7 @@ use Rattle.std.proofs.Common.{◌≡◌, arith, rules, sym, ◌∙◌}
 use Rattle.std.specs.Prelude.{false}
 use Rattle.std.proofs.lemmas.Bool.{false≢true}
 use Rattle.store_reading.proofs.Batched.{shorter_rest}
-use Rattle.store_reading.proofs.Hidden.{tail_begun, tail_hidden, tail_more, tail_plain}
+use Rattle.store_reading.proofs.Tails.{tail_begun, tail_hidden, tail_more, tail_plain}
 use Rattle.store_reading.proofs.journal_file.hidden_at.Goals as goal
 
 pub batches-init : goal.batches-init

@@ -1,5 +1,5 @@
 use Rattle.std.proofs.Common.{length}
-use Rattle.store_reading.proofs.Hidden.{IsTailOf}
+use Rattle.store_reading.proofs.Tails.{IsTailOf}
 use Rattle.store_reading.proofs.journal_file.hidden_at.Given as goal
 
 abbrev pub invariant-batches : goal.invariant-batches

@@ -1,5 +1,5 @@
 use Rattle.store_reading.proofs.Causing.{input_cause}
-use Rattle.store_reading.proofs.Hidden.{given_file}
+use Rattle.store_reading.proofs.Tails.{given_file}
 use Rattle.store_reading.proofs.journal_file.read_file.Goals as goal
 
 pub returns-in-Ok-clause-given : goal.returns-in-Ok-clause-given

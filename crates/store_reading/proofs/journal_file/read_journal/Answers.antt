@@ -3,7 +3,7 @@ use Rattle.std.specs.Prelude.{IfNone, IfSome, IsSomeAnd, false}
 use Rattle.std.proofs.lemmas.Bool.{false≢true}
 use Rattle.disk.specs.States.{Files}
 use Rattle.store_reading.specs.Damages.{HidesNothing, IsHiddenAt}
-use Rattle.store_reading.proofs.Hidden.{again_plain, hidden_read, octets_read}
+use Rattle.store_reading.proofs.Tails.{again_plain, hidden_read, octets_read}
 use Rattle.store_reading.proofs.journal_file.read_journal.Goals as goal
 
 pub returns-in_default-clause-read : goal.returns-in_default-clause-read

@@ -6,7 +6,7 @@ use Rattle.store_reading.specs.Sources.{set_entries}
 use Rattle.store_reading.specs.declared.fault.CheckFault.{CheckFault}
 use Rattle.store_reading.proofs.Causing.{if_err_more}
 use Rattle.store_reading.proofs.Damaged.{hidden_damaged}
-use Rattle.store_reading.proofs.Hidden.{file_is, hidden_file, nothing_hidden, whole_of}
+use Rattle.store_reading.proofs.Tails.{file_is, hidden_file, nothing_hidden, whole_of}
 use Rattle.store_reading.proofs.Whole.{on_ok_more}
 use Rattle.store_reading.proofs.journals.add_read.Goals as goal
 
