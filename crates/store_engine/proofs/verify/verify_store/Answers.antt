@@ -16,7 +16,7 @@ returns-in-Err-clause-ran g c =
     let old = g.W.Output.state c.args.output.now in
     let new = g.W.Output.state c.write_all.new.writer in
     unwritten_ran _ _ _ old new (g.N.Output.state c.args.diagnostics.now) _ _ c.verify-verified.new.damaged.items _
-    (as_told_first _ _ _ c.new-damaged.ensures c.verify-verified.ensures.as_told)
+    (as_told_first _ _ _ c.new-damaged.ensures.items c.verify-verified.ensures.as_told)
     (subst (λ (text : List ℕ). WrotePart old new text _) (c.deref-2.ensures.value ∙ c.in-Ok.ensures) c.in-Err.ensures)
     c.report_read_fault-in-Err.ensures
 
@@ -25,6 +25,6 @@ returns-clause-ran g c =
     let old = g.W.Output.state c.args.output.now in
     let new = g.W.Output.state c.write_all.new.writer in
     verified_ran _ _ _ old new (g.N.Output.state c.args.diagnostics.now) _ _ c.verify-verified.new.damaged.items
-    c.verify-verified.result (as_told_first _ _ _ c.new-damaged.ensures c.verify-verified.ensures.as_told)
+    c.verify-verified.result (as_told_first _ _ _ c.new-damaged.ensures.items c.verify-verified.ensures.as_told)
     (subst (WroteAll old new) (c.deref-2.ensures.value ∙ c.in-Ok.ensures) c.in_default-write_all.ensures)
     c.verify-verified.ensures.listed c.verify-verified.ensures.cause c.end.ensures.done c.end.ensures.told
