@@ -18,7 +18,7 @@ returns-in-Err-clause-ran g c =
     let new = g.W.Output.state c.write_all.new.writer in
     unwritten_ran _ _ _ old new (g.N.Output.state c.args.diagnostics.now) _ _ c.verify-verified.new.damaged.items _
     (as_told_first _ _ _ c.new-damaged.ensures.items c.verify-verified.ensures.as_told)
-    (subst (λ (text : List ℕ). WrotePart old new text _)
+    (subst (λ (text : List ℕ). WrotePart old new text c.in-Err.field-0.sent)
     (c.deref-2.ensures.value ∙ (c.in-Ok.ensures ∙ ap damage_lines c.deref.ensures.value)) c.in-Err.ensures)
     c.report_read_fault-in-Err.ensures
 
