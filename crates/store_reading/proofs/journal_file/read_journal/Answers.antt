@@ -15,17 +15,17 @@ returns-in_default-clause-read g c t =
 pub returns-then-is_again-clause-read : goal.returns-then-is_again-clause-read
 returns-then-is_again-clause-read g c t =
     hidden_read (g.F.Folder.files c.args.folder.now c.args.name.now) c.in_ok-octets.octets.items c.in-Some.at
-    (c.in_ok-octets.ensures.given (c.read_file-again.ensures.told t))
+    (c.in_ok-octets.ensures.given (c.read_file-2.ensures.told t))
     (subst (λ (l : List ℕ). IsHiddenAt l c.in-Some.at) c.deref.ensures.value c.in-Some.ensures.some)
 
 pub returns-clause-read : goal.returns-clause-read
 returns-clause-read g c t =
-    let before = c.read_file-again.ensures.told t in
+    let before = c.read_file-2.ensures.told t in
     let name = c.args.name.now in
     let file = g.F.Folder.files c.args.folder.now name in
     let again = c.in_ok-again.again in
     let off : c.is_again.result ≡ false = search rules in
-    let found = c.hidden_at-is_again in
+    let found = c.hidden_at-2 in
     let given = subst (λ (f : Files). IsSomeAnd (f name) (λ (l : List ℕ). again.items ≡ l))
     (c.read_file.ensures.same before) (c.in_ok-again.ensures.given t) in
     octets_read again file given

@@ -16,23 +16,23 @@ returns-in-Octets-clause-adds c =
     let new = set_entries c.add_batches.new.set in
     on_ok_more c.add_batches.result
     (λ adds file is. subst (λ (t : List ℕ). Adds old new (JournalHas t))
-    (file_is c.args.journal.now c.in-Octets.octets.now c.in-Octets.is c.deref.result.now c.deref.ensures.value file is) adds)
+    (file_is c.args.journal.now c.in-Octets.octets c.in-Octets.is c.deref.result.now c.deref.ensures.value file is) adds)
     c.add_batches.ensures.adds
 
 pub returns-in-Octets-clause-whole : goal.returns-in-Octets-clause-whole
 returns-in-Octets-clause-whole c =
     on_ok_more c.add_batches.result
     (λ readable file is. whole_of file (subst AreReadable
-    (file_is c.args.journal.now c.in-Octets.octets.now c.in-Octets.is c.deref.result.now c.deref.ensures.value file is)
+    (file_is c.args.journal.now c.in-Octets.octets c.in-Octets.is c.deref.result.now c.deref.ensures.value file is)
     readable)
-    (nothing_hidden c.args.journal.now c.in-Octets.octets.now c.in-Octets.is c.deref.result.now c.deref.ensures.value file
+    (nothing_hidden c.args.journal.now c.in-Octets.octets c.in-Octets.is c.deref.result.now c.deref.ensures.value file
     is)) c.add_batches.ensures.readable
 
 pub returns-in-Octets-clause-damaged : goal.returns-in-Octets-clause-damaged
 returns-in-Octets-clause-damaged c =
     if_err_more c.add_batches.result (λ (f : CheckFault). Tells f (IsDamagedJournal c.deref.result.now)) _
     (λ fault told file is. subst (λ (t : List ℕ). Tells fault (IsDamagedJournal t))
-    (file_is c.args.journal.now c.in-Octets.octets.now c.in-Octets.is c.deref.result.now c.deref.ensures.value file is)
+    (file_is c.args.journal.now c.in-Octets.octets c.in-Octets.is c.deref.result.now c.deref.ensures.value file is)
     told) c.add_batches.ensures.damaged
 
 pub returns-in-Hidden-clause-damaged : goal.returns-in-Hidden-clause-damaged

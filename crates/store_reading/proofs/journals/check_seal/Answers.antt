@@ -14,5 +14,5 @@ pub returns-clause-damaged : goal.returns-clause-damaged
 returns-clause-damaged c text parts =
     let off : c.seals.result ≡ false = search rules in
     other_seal c.args.body.now c.args.rest.now text c.split_at.result.0.now c.split_at.result.1.now
-    c.saturating_sub.result c.args.offset c.saturating_add-at.result (omega arith) c.split_at.ensures.front
-    c.split_at.ensures.back parts (λ seals. false≢true (sym off ∙ c.seals.ensures.1 seals)) (omega arith)
+    c.saturating_sub.result (omega arith) c.split_at.ensures.front c.split_at.ensures.back parts c.args.offset
+    c.saturating_add-at.result (λ seals. false≢true (sym off ∙ c.seals.ensures.1 seals)) (omega arith)
