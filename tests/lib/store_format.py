@@ -91,6 +91,13 @@ def of_batch(body):
     return of_entries(body) if found is None else found
 
 
+def of_journal(octets):
+    """The records of a journal, None where it is damaged."""
+    bodies, end = bodies_of(octets)
+    parts = [of_batch(body) for body in bodies]
+    return None if None in parts or hides_batches(octets[end:]) else frozenset().union(*parts)
+
+
 def day_of(record):
     time = record.split(b" ", 2)[1]
     return b"undated" if time == b"-" else time[:10]
@@ -119,8 +126,7 @@ def held(files):
         journal, segment = JOURNAL.fullmatch(name), SEGMENT.fullmatch(name)
         parts = []
         if journal and is_number(journal.group(1)):
-            bodies, end = bodies_of(octets)
-            parts = [None] if hides_batches(octets[end:]) else [of_batch(body) for body in bodies]
+            parts = [of_journal(octets)]
         elif segment:
             parts = [of_segment(segment.group(1), octets) if is_named_right(name, octets) else None]
         if None in parts:

@@ -3,7 +3,7 @@ ghost use Rattle.std.specs.Prelude.{◌≡◌, ◌++◌, ◌⊎◌, ◌↔◌, I
 ghost use Rattle.driver.specs.Devices.{Reports};
 ghost use Rattle.archive_engine.specs.FaultLines.{fault_line};
 ghost use Rattle.set_engine.specs.Ended.{TellsLine};
-ghost use Rattle.store_engine.specs.Lines.{day_line, file_line};
+ghost use Rattle.store_engine.specs.Lines.{damage_line, file_line, position_line};
 ghost use Rattle.store_engine.specs.NoStores.{IsOfMemory};
 
 use archive_engine::report_archive_fault;
@@ -12,6 +12,7 @@ use driver::{FAULT, NO_MEMORY, REFUSED, report};
 use folder_disk::{FileError, FolderFault, FolderPath};
 use itoa::Buffer;
 use octet_devices::{Output, ToWrite};
+use record_store::JournalDamage;
 use std::alloc::{AllocError, Global};
 use std::fmt::Display;
 use std::io::{self, ErrorKind};
@@ -42,14 +43,25 @@ fn archive_line(alloc: Global, name: &[u8], fault: ArchiveFault) -> Result<Vec<u
     Err(AllocError)
 }
 
-// The line on an entry of another day.
-fn other_day_line(alloc: Global, name: &[u8], at: u64) -> Result<Vec<u8>, AllocError>
-    ensures { IfOk result (λ line. line.items ≡ day_line name.now at) }
+// The line on what begins at a position of a file, by these words behind its name.
+fn line_at(alloc: Global, name: &[u8], words: &[u8], at: u64) -> Result<Vec<u8>, AllocError>
+    ensures { IfOk result (λ line. line.items ≡ position_line name.now words.now at) }
 {
-    let mut line = words_on(alloc, name, b" day ")?;
+    let mut line = words_on(alloc, name, words)?;
     line.extend_from_slice(Buffer::new().format(at).as_bytes())?;
     line.extend_from_slice(b"\n")?;
     Ok(line)
+}
+
+// The line on a journal that is damaged.
+fn journal_line(alloc: Global, name: &[u8], damage: JournalDamage) -> Result<Vec<u8>, AllocError>
+    ensures { IfOk result (λ line. line.items ≡ damage_line name.now damage) }
+{
+    match damage {
+        JournalDamage::Archive(fault) => archive_line(alloc, name, fault),
+        JournalDamage::Checksum { at } => line_at(alloc, name, b" checksum ", at),
+        JournalDamage::Hidden { at } => line_at(alloc, name, b" hidden ", at),
+    }
 }
 
 /// The line on a file that is damaged.
@@ -62,8 +74,9 @@ pub(crate) fn damaged_line(
 {
     match fault {
         FileFault::Archive(fault) => archive_line(alloc, name, fault),
-        FileFault::OtherDay { at } => other_day_line(alloc, name, at),
+        FileFault::OtherDay { at } => line_at(alloc, name, b" day ", at),
         FileFault::Digest => words_on(alloc, name, b" digest\n"),
+        FileFault::Journal(damage) => journal_line(alloc, name, damage),
     }
 }
 

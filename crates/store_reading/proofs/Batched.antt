@@ -2,12 +2,12 @@
 use Rattle.std.proofs.Common.{◌≡◌, ◌⊎◌, ℕ, ◌<◌, ◌≤◌, List, [], ◌∷◌, ◌++◌, Option, None, Some, length, take, drop}
 use Rattle.std.proofs.Common.{inl, inr}
 use Rattle.std.proofs.Common.{refl, sym, ap, subst, ◌∙◌, append_assoc, arith, length-append}
-use Rattle.std.specs.Prelude.{◌↔◌, Err, IfOk, IfSome, IsErrOf, IsSomeAnd, Ok, Result, Vec, ℤ, codes}
+use Rattle.std.specs.Prelude.{◌↔◌, Bool, Err, IfOk, IfSome, IsErrOf, IsSomeAnd, IsTrue, Ok, Result, Vec, ℤ, codes, false}
+use Rattle.std.proofs.lemmas.Bool.{false≢true}
 use Rattle.std.specs.Int.{to_le_bytes, w32}
 use Rattle.std.specs.List.{AllByRecursion}
 use Rattle.std.proofs.lemmas.List.{append-nil, length-take, take_all, take_at, drop_at}
 use Rattle.disk.specs.States.{Files}
-use Rattle.octet_devices.specs.Device.{InputState}
 use Rattle.journal.specs.Batches.{batches_text, BeginsWithBatch, HasBatches, IsBody, IsClosed, open_batch}
 use Rattle.journal.proofs.Batches.{sized_push, text-push}
 use Rattle.journal.proofs.Readings.{body_is}
@@ -28,8 +28,9 @@ use Rattle.archive_text.proofs.Texts.{one_entry_of, text_goes_on}
 use Rattle.archive_sets.specs.declared.range.InRange.{InRange}
 use Rattle.record_store.specs.Holdings.{BatchHas, BatchesHave, IsBatch, IsReadable, JournalHas, SegmentHas}
 use Rattle.record_store.specs.Names.{IsJournal}
+use Rattle.record_store.specs.Seals.{HasMore, Seals}
 use Rattle.record_store.proofs.Batches.{batch_has, journal_has, push_has, pushed_either, pushed_has}
-use Rattle.store_reading.specs.Journals.{Adds, AddsJournal, HasAsJournal, HasInMemory, IsOfMemory, MemoryHas}
+use Rattle.store_reading.specs.Journals.{Adds, HasAsJournal, HasInMemory, IsOfMemory, MemoryHas}
 use Rattle.store_reading.specs.Journals.{NamedMemoryHas}
 use Rattle.store_reading.specs.Folders.{AreNamesOf}
 use Rattle.store_reading.proofs.Held.{listed_name, no_name, some_before, some_either, some_last}
@@ -128,20 +129,21 @@ batch_more old mid new body rest behind e b begins adds = record {
       (has_push b.entries e);
 }
 
-pub batch_whole : (old new : List Entry) (body rest : List ℕ) → BatchAdded old new body rest → rest ≡ []
-    → Adds old new (BatchHas body)
-batch_whole old new body rest b none =
-    let batch : IsBatch b.entries body = record {
-      entries = b.are;
-      fits = b.fit;
-      text = b.parts ∙ ap (λ (t : List ℕ). text_of b.entries ++ t) none ∙ append-nil (text_of b.entries);
-    } in
-    adds_same old new (Has b.entries) (BatchHas body)
-    (λ e. (λ h. record { entries = b.entries; batch = batch; has = h }, λ h. batch_has b.entries body e batch h)) b.adds
+module _ (old new : List Entry) (body rest : List ℕ) (b : BatchAdded old new body rest)
+    (sealed : Seals (text_of b.entries) rest) where
+  batch : IsBatch b.entries body
+  batch = record { entries = b.are; fits = b.fit; behind = rest; text = b.parts; seal = sealed }
 
-pub no_octets : (octets : List ℕ) → length octets ≡ 0 → octets ≡ []
-no_octets [] none = refl
-no_octets (x ∷ octets) none = absurd (omega (arith, none))
+  pub batch_whole : Adds old new (BatchHas body)
+  batch_whole =
+      adds_same old new (Has b.entries) (BatchHas body)
+      (λ e. (λ h. record { entries = b.entries; batch = batch; has = h }, λ h. batch_has b.entries body e batch h)) b.adds
+
+  pub batch_read : IsReadable body
+  batch_read = (b.entries, batch)
+
+pub no_more : (found : Bool) (rest : List ℕ) → (IsTrue found ↔ HasMore rest) → found ≡ false → ¬ (HasMore rest)
+no_more found rest tells off more = false≢true (sym off ∙ tells.1 more)
 
 -- ---- a journal
 
@@ -233,18 +235,10 @@ all_given None kept limit h short = tt
 all_given (Some input) kept limit h short =
     h ∙ take_all limit input (omega (arith, short, ap length h, length-take limit input))
 
-pub journal_added : (left : Option (List ℕ)) (octets : List ℕ) (old new : List Entry)
-    → IfSome left (λ (input : List ℕ). octets ≡ input) → Adds old new (JournalHas octets)
-    → IfSome left (λ (input : List ℕ). Adds old new (JournalHas input))
-journal_added None octets old new is adds = tt
-journal_added (Some input) octets old new is adds = subst (λ (t : List ℕ). Adds old new (JournalHas t)) is adds
-
-file_added : (file left : Option (List ℕ)) (old new : List Entry) → IsSomeAnd file (λ octets. left ≡ Some octets)
-    → IfSome left (λ (input : List ℕ). Adds old new (JournalHas input))
+file_added : (file : Option (List ℕ)) (old new : List Entry) → IsSomeAnd file (λ f. Adds old new (JournalHas f))
     → Adds old new (λ e. IsSomeAnd file (λ f. JournalHas f e))
-file_added None left old new opens adds = absurd opens
-file_added (Some f) left old new opens adds =
-    subst (λ (l : Option (List ℕ)). IfSome l (λ (input : List ℕ). Adds old new (JournalHas input))) opens adds
+file_added None old new adds = absurd adds
+file_added (Some f) old new adds = adds
 
 -- ---- the files of names
 
@@ -302,9 +296,8 @@ text_of_memory files range names old new (Err e) listed none adds archive is = t
 text_of_memory files range names old new (Ok v) listed none adds archive is =
     of_memory files range names old new v.items listed none adds archive is
 
-pub named_added : (files : Files) (name : List ℕ) (d : InputState) (old new : List Entry) → IsJournal name
-    → IsSomeAnd (files name) (λ octets. d.left ≡ Some octets) → AddsJournal d old new
-    → Adds old new (HasAsJournal files name)
-named_added files name d old new journal opens adds =
+pub named_added : (files : Files) (name : List ℕ) (old new : List Entry) → IsJournal name
+    → IsSomeAnd (files name) (λ file. Adds old new (JournalHas file)) → Adds old new (HasAsJournal files name)
+named_added files name old new journal adds =
     adds_same old new (λ e. IsSomeAnd (files name) (λ f. JournalHas f e)) (HasAsJournal files name)
-    (λ e. (λ h. (journal, h), λ h. h.1)) (file_added (files name) d.left old new opens adds)
+    (λ e. (λ h. (journal, h), λ h. h.1)) (file_added (files name) old new adds)

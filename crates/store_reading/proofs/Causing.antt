@@ -46,6 +46,12 @@ pub at_err : {T E : Type 0} (r : Result T E) (fault : E) (P : E → Type 0) → 
 at_err (Ok x) fault P is p = tt
 at_err (Err x) fault P is p = subst P (sym is) p
 
+-- and what follows from what is so of it is so too
+pub if_err_more : {T E : Type 0} (r : Result T E) (P Q : E → Type 0) → ((fault : E) → P fault → Q fault) → IfErr r P
+    → IfErr r Q
+if_err_more (Ok x) P Q more p = tt
+if_err_more (Err fault) P Q more p = more fault p
+
 -- where each cause is one of others
 module _ (causes others : Causes) (failed : causes.failed → others.failed)
     (read : (name : List ℕ) → causes.read name → others.read name)
@@ -122,21 +128,33 @@ some_where : (o left : Option (List ℕ)) (P : List ℕ → Type 0) → IsSomeAn
 some_where None left P opened of = absurd opened
 some_where (Some file) left P opened of = of file opened
 
-pub checked_cause : (tells failed : Type 0) (files : Files) (IsRead : List ℕ → Type 0)
-    (IsDamaged : List ℕ → List ℕ → FileFault → Type 0) (name copy : List ℕ) (d : InputState) (fault : CheckFault)
-    (found : ReadFault) → IsRead name → (tells → Opens files name d)
-    → OfLeft d (λ file. Tells fault (IsDamaged name file)) → copy ≡ name → IsFaultAt copy fault found
-    → IsCause (file_causes tells failed files IsRead IsDamaged) found
-checked_cause tells failed files IsRead IsDamaged name copy d (check_Damaged fault) found read opened told same is =
-    subst (IsCause (file_causes tells failed files IsRead IsDamaged)) (sym is)
-    (subst (λ (n : List ℕ). IsRead n × (tells → IsSomeAnd (files n) (λ file. IsDamaged n file fault))) (sym same) (
-      read,
-      λ t. some_where (files name) d.left (λ (file : List ℕ). IsDamaged name file fault) (opened t) told,
-    ))
-checked_cause tells failed files IsRead IsDamaged name copy d (Input fault) found read opened told same is =
-    subst (IsCause (file_causes tells failed files IsRead IsDamaged)) (sym is) (subst IsRead (sym same) read)
-checked_cause tells failed files IsRead IsDamaged name copy d check_Memory found read opened told same is =
-    subst (IsCause (file_causes tells failed files IsRead IsDamaged)) (sym is) tt
+module _ (tells failed : Type 0) (files : Files) (IsRead : List ℕ → Type 0)
+    (IsDamaged : List ℕ → List ℕ → FileFault → Type 0) (name copy : List ℕ) where
+  pub found_cause : (fault : CheckFault) (found : ReadFault) → IsRead name
+      → (tells → IsSomeAnd (files name) (λ file. Tells fault (IsDamaged name file))) → copy ≡ name
+      → IsFaultAt copy fault found → IsCause (file_causes tells failed files IsRead IsDamaged) found
+  found_cause (check_Damaged fault) found read told same is =
+      subst (IsCause (file_causes tells failed files IsRead IsDamaged)) (sym is)
+      (subst (λ (n : List ℕ). IsRead n × (tells → IsSomeAnd (files n) (λ file. IsDamaged n file fault))) (sym same)
+      (read, told))
+  found_cause (Input fault) found read told same is =
+      subst (IsCause (file_causes tells failed files IsRead IsDamaged)) (sym is) (subst IsRead (sym same) read)
+  found_cause check_Memory found read told same is =
+      subst (IsCause (file_causes tells failed files IsRead IsDamaged)) (sym is) tt
+
+  pub checked_cause : (d : InputState) (fault : CheckFault) (found : ReadFault) → IsRead name
+      → (tells → Opens files name d) → OfLeft d (λ file. Tells fault (IsDamaged name file)) → copy ≡ name
+      → IsFaultAt copy fault found → IsCause (file_causes tells failed files IsRead IsDamaged) found
+  checked_cause d fault found read opened told same is =
+      found_cause fault found read
+      (λ t. some_where (files name) d.left (λ (file : List ℕ). Tells fault (IsDamaged name file)) (opened t) told) same is
+
+-- a file that was read, and not checked
+pub input_cause : (failed : Type 0) (name copy : List ℕ) (fault : CheckFault) (found : ReadFault)
+    → Tells fault (λ damage. ⊥) → copy ≡ name → IsFaultAt copy fault found → IsCause (open_causes failed name) found
+input_cause failed name copy (check_Damaged fault) found none same is = absurd none
+input_cause failed name copy (Input fault) found none same is = subst (IsCause (open_causes failed name)) (sym is) same
+input_cause failed name copy check_Memory found none same is = subst (IsCause (open_causes failed name)) (sym is) tt
 
 -- ---- files that stayed the same
 

@@ -2,6 +2,7 @@
 use Rattle.std.proofs.Common.{◌≡◌, ℕ, ◌+◌, ◌-◌, ◌<◌, ◌≤◌, ◌^◌, List, [], ◌∷◌, ◌++◌, Some, inl, inr}
 use Rattle.std.proofs.Common.{length, min, refl, sym, ap, subst, ◌∙◌, append_assoc, append-nil, length-append, arith}
 use Rattle.std.specs.Int.{to_le_bytes, w32}
+use Rattle.std.specs.Prelude.{Err, IfErr, Ok, Result}
 use Rattle.std.specs.List.{AllByRecursion}
 use Rattle.std.proofs.lemmas.List.{take_all}
 use Rattle.octet_language.specs.Language.{AnyOf, Begins}
@@ -28,8 +29,10 @@ use Rattle.archive_streams.specs.declared.fault.SideFault.TheVariants.{Archive a
 use Rattle.archive_streams.proofs.Counting.{bad_count}
 use Rattle.archive_streams.proofs.EntrySteps.{begun}
 use Rattle.record_store.specs.Holdings.{IsOfPeriod, IsReadable, IsWholeJournal}
+use Rattle.record_store.specs.Seals.{HasMore}
+use Rattle.record_store.specs.declared.journal_damage.JournalDamage.TheVariants.{Archive as No_entry, Checksum, Hidden}
 use Rattle.record_store.specs.Segments.{IsArchiveOfDay}
-use Rattle.store_reading.specs.Damages.{IsBatchDamage, IsDamagedBatch, IsDamagedJournal}
+use Rattle.store_reading.specs.Damages.{IsBatchFileDamage, IsDamagedBatch, IsDamagedJournal, IsHiddenAt, IsOtherSeal}
 use Rattle.store_reading.specs.Damages.{IsDamagedArchive, IsFirstFault, IsJournalDamage, IsOtherDayAt, OfLeft, Tells}
 use Rattle.store_reading.specs.Damages.{position}
 use Rattle.store_reading.specs.Faults.{check_fault_of}
@@ -37,11 +40,12 @@ use Rattle.store_reading.specs.Segments.{IsWholeOf, ReadsOf}
 use Rattle.store_reading.specs.declared.fault.CheckFault.{CheckFault}
 use Rattle.store_reading.specs.declared.fault.CheckFault.TheVariants.{Damaged, Input, Memory}
 use Rattle.store_reading.specs.declared.fault.FileFault.{FileFault}
-use Rattle.store_reading.specs.declared.fault.FileFault.TheVariants.{Archive, Digest, OtherDay}
+use Rattle.store_reading.specs.declared.fault.FileFault.TheVariants.{Archive, Digest, Journal, OtherDay}
 use Rattle.store_reading.proofs.Batched.{BatchAdded, JournalAdded}
 use Rattle.store_reading.proofs.Joined.{rest_of, whole_rest}
-use Rattle.store_reading.proofs.Readable.{IsReadUpTo, batch_fault, journal_fault, readable_first, unreadable}
-use Rattle.store_reading.proofs.Readable.{whole_parts}
+use Rattle.store_reading.proofs.Tails.{hidden_not_whole}
+use Rattle.store_reading.proofs.Readable.{IsCheckedUpTo, IsReadUpTo, batch_fault, fault_unreadable, journal_fault}
+use Rattle.store_reading.proofs.Readable.{seal_unreadable, whole_parts}
 
 -- ---- what was read of a segment
 
@@ -176,40 +180,52 @@ stopped_told day (side_Archive fault) s t d e f r halts file left =
 
 -- ---- a batch
 
--- the entries of a sequence behind its first ones
-readable_behind : (entries : List Entry) (rest : List ℕ) → AllByRecursion IsEntry entries
-    → AllByRecursion (λ e. length e.octets ≤ ENTRY_MAX) entries → IsReadable (text_of entries ++ rest) → IsReadable rest
-readable_behind [] rest are fit h = h
-readable_behind (e ∷ entries) rest are fit h =
-    readable_behind entries rest are.1 fit.1
-    ((readable_first ((entry_text e ++ text_of entries) ++ rest) (text_of entries ++ rest) e begins).there h)
-  where
-    begins : BeginsWithEntry ENTRY_MAX ((entry_text e ++ text_of entries) ++ rest) e (text_of entries ++ rest)
-    begins = record {
-      entry = are.0;
-      fits = fit.0;
-      carries = entry_carries ENTRY_MAX e (omega arith) are.0 fit.0;
-      parts = append_assoc (entry_text e) (text_of entries) rest;
-    }
+module _ (old new : List Entry) (body rest : List ℕ) (offset : ℕ) (b : BatchAdded old new body rest) where
+  pub batch_damaged : (at : ℕ) (fault : CheckFault) → HasMore rest
+      → at ≡ position (offset + (length body - length rest)) → Tells fault (IsFirstFault rest at)
+      → Tells fault (IsDamagedBatch body offset)
+  batch_damaged at (Damaged fault) more sum told = record {
+    not_readable = fault_unreadable b.entries body rest b.are b.fit b.parts told.fault told.is more;
+    told = λ small. subst (IsBatchFileDamage body offset) (sym told.told_is)
+        (batch_fault body rest offset at told.fault told.later_fault up_to told.is sum told.place small);
+  }
+    where
+      up_to : IsReadUpTo body rest
+      up_to = record {
+        entries = b.entries;
+        parts = b.parts;
+        before = record { entries = b.are; fits = b.fit; text_is = refl };
+      }
+  batch_damaged at (Input fault) more sum told = tt
+  batch_damaged at Memory more sum told = tt
 
-pub batch_damaged : (old new : List Entry) (body rest : List ℕ) (offset at : ℕ) (fault : CheckFault)
-    → BatchAdded old new body rest → 0 < length rest → at ≡ position (offset + (length body - length rest))
-    → Tells fault (IsFirstFault rest at) → Tells fault (IsDamagedBatch body offset)
-batch_damaged old new body rest offset at (Damaged fault) b some sum told = record {
-  not_readable = λ r. unreadable rest told.fault told.is some
-      (readable_behind b.entries rest b.are b.fit (subst IsReadable b.parts r));
-  told = λ small. subst (IsBatchDamage body offset) (sym told.told_is)
-      (batch_fault body rest offset at told.fault told.later_fault up_to told.is sum told.place small);
-}
-  where
-    up_to : IsReadUpTo body rest
-    up_to = record {
-      entries = b.entries;
-      parts = b.parts;
-      before = record { entries = b.are; fits = b.fit; text = refl };
-    }
-batch_damaged old new body rest offset at (Input fault) b some sum told = tt
-batch_damaged old new body rest offset at Memory b some sum told = tt
+  seal_damaged : (fault : CheckFault) → ¬ (HasMore rest)
+      → ((text : List ℕ) → body ≡ text ++ rest → Tells fault (IsOtherSeal text rest offset))
+      → Tells fault (IsDamagedBatch body offset)
+  seal_damaged (Damaged fault) over told =
+      let other = told (text_of b.entries) b.parts in
+      let size : length body ≡ length (text_of b.entries) + length rest =
+      ap length b.parts ∙ length-append (text_of b.entries) rest in
+      record {
+        not_readable = seal_unreadable b.entries body rest b.are b.fit b.parts over other.other;
+        told = λ small. subst (IsBatchFileDamage body offset) (sym other.told_is) (record {
+          entries = b.entries;
+          rest = rest;
+          parts = b.parts;
+          before = record { entries = b.are; fits = b.fit; text_is = refl };
+          over = over;
+          other = other.other;
+          place = omega arith;
+        });
+      }
+  seal_damaged (Input fault) over told = tt
+  seal_damaged Memory over told = tt
+
+  pub seal_result : (r : Result (Unit {0}) CheckFault) → ¬ (HasMore rest)
+      → IfErr r (λ fault. (text : List ℕ) → body ≡ text ++ rest → Tells fault (IsOtherSeal text rest offset))
+      → IfErr r (λ fault. Tells fault (IsDamagedBatch body offset))
+  seal_result (Ok x) over told = tt
+  seal_result (Err fault) over told = seal_damaged fault over told
 
 -- ---- a journal
 
@@ -244,11 +260,25 @@ journal_damaged old new file rest body behind offset (Damaged fault) j (sized, i
   told = damage fault told.told;
 }
   where
-    damage : (f : FileFault) → (offset + length body < 2 ^ 64 → IsBatchDamage body offset f) → IsJournalDamage file f
-    damage (Archive f) of =
-        journal_fault file rest body behind offset f
-        (record { bodies = j.bodies; readable = j.readable; parts = j.parts }) sized is place small of
-    damage (OtherDay at) of = of (batch_fits old new file rest body behind offset j is place small)
-    damage Digest of = of (batch_fits old new file rest body behind offset j is place small)
+    up_to : IsCheckedUpTo file rest
+    up_to = record { bodies = j.bodies; readable = j.readable; parts = j.parts }
+
+    small_body : offset + length body < 2 ^ 64
+    small_body = batch_fits old new file rest body behind offset j is place small
+
+    damage : (f : FileFault) → (offset + length body < 2 ^ 64 → IsBatchFileDamage body offset f) → IsJournalDamage file f
+    damage (Journal (No_entry f)) of =
+        journal_fault file rest body behind offset (No_entry f) up_to sized is place small of
+    damage (Journal (Checksum at)) of =
+        journal_fault file rest body behind offset (Checksum at) up_to sized is place small of
+    damage (Journal (Hidden at)) of = absurd (of small_body)
+    damage (Archive f) of = absurd (of small_body)
+    damage (OtherDay at) of = absurd (of small_body)
+    damage Digest of = absurd (of small_body)
 journal_damaged old new file rest body behind offset (Input fault) j first place small told = tt
 journal_damaged old new file rest body behind offset Memory j first place small told = tt
+
+-- batches are hidden
+pub hidden_damaged : (file : List ℕ) (at : ℕ) → IsHiddenAt file at
+    → IsDamagedJournal file (Journal (Hidden at))
+hidden_damaged file at h = record { not_whole = hidden_not_whole file at h; told = h }

@@ -20,7 +20,7 @@ use Rattle.store_reading.specs.Whole.{IsWholeSegment}
 use Rattle.store_reading.specs.declared.fault.CheckFault.{CheckFault}
 use Rattle.store_reading.specs.declared.fault.CheckFault.TheVariants.{Damaged, Input, Memory}
 use Rattle.store_reading.specs.declared.fault.FileFault.{FileFault}
-use Rattle.store_reading.specs.declared.fault.FileFault.TheVariants.{Archive, Digest, OtherDay}
+use Rattle.store_reading.specs.declared.fault.FileFault.TheVariants.{Archive, Digest, Journal, OtherDay}
 use Rattle.store_reading.proofs.Damaged.{file_is, other_day, other_day_at}
 
 -- ---- entry by entry
@@ -118,6 +118,7 @@ damaged_archive day name file (Archive fault) d =
 damaged_archive day name file (OtherDay at) d =
     record { not_whole = λ w. d.not_archive (w.entries, w.archive); told = d.told }
 damaged_archive day name file Digest d = absurd d.told
+damaged_archive day name file (Journal damage) d = absurd d.told
 
 pub damaged_segment : (day name file : List ℕ) (fault : CheckFault) → Tells fault (IsDamagedArchive day file)
     → Tells fault (IsDamagedSegment day name file)

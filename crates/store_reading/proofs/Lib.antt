@@ -17,5 +17,6 @@ pub mod Readable
 pub mod SameSets
 pub mod SegmentNames
 pub mod Segments
+pub mod Tails
 pub mod Whole
 pub mod Written

@@ -1,8 +1,9 @@
 -- Batches are read, or not.
 use Rattle.std.proofs.Common.{◌≡◌, ℕ, ◌<◌, List, [], ◌∷◌, ◌++◌, length, refl, sym, ap, subst, ◌∙◌, arith}
-use Rattle.std.proofs.Common.{◌+◌, ◌-◌, ◌≤◌, ◌^◌, suc, inl, inr, min, append_assoc, length-append}
+use Rattle.std.proofs.Common.{◌+◌, ◌-◌, ◌≤◌, ◌^◌, suc, inl, inr, min, take, drop, append_assoc, length-append}
 use Rattle.std.specs.Int.{w32, to_le_bytes}
 use Rattle.std.specs.List.{AllByRecursion}
+use Rattle.std.proofs.lemmas.List.{drop_at, take_at}
 use Rattle.journal.specs.Batches.{batches_text, HasBatches, IsBody, IsClosed, open_batch}
 use Rattle.journal.proofs.Batches.{text-push}
 use Rattle.journal.proofs.Readings.{same_batch}
@@ -18,89 +19,56 @@ use Rattle.archive_text.proofs.FaultLaws.{fault_later}
 use Rattle.archive_text.proofs.Prefixes.{fault_excludes}
 use Rattle.archive_text.proofs.Members.{all_append}
 use Rattle.archive_text.proofs.Texts.{entry_carries, one_beginning, text_goes_on, text_some}
-use Rattle.record_store.specs.Holdings.{IsBatch, IsReadable, IsWholeJournal}
-use Rattle.store_reading.specs.Damages.{IsBatchFault, IsJournalFault}
+use Rattle.record_store.specs.Holdings.{AreEntries, IsReadable, IsWholeJournal}
+use Rattle.record_store.specs.Seals.{HasMore, HidesBatches, Seals}
+use Rattle.record_store.proofs.Sealed.{begins_some, rest_of, rest_seals}
+use Rattle.record_store.specs.declared.journal_damage.JournalDamage.{JournalDamage}
+use Rattle.record_store.specs.declared.journal_damage.JournalDamage.TheVariants.{Checksum}
+use Rattle.store_reading.specs.Damages.{IsBatchDamage, IsBatchFault, IsJournalFault, IsOtherSeal, position}
+use Rattle.store_reading.specs.declared.fault.FileFault.TheVariants.{Journal}
 
--- the one is so exactly where the other is
-pub record IsAsGood (one other : Type 0) : Type 0 where
-  pub there : one → other
-  pub back : other → one
+module _ (entries : List Entry) (body rest : List ℕ) (are : AllByRecursion IsEntry entries)
+    (fit : AllByRecursion (λ e. length e.octets ≤ ENTRY_MAX) entries) (parts : body ≡ text_of entries ++ rest) where
+  -- a fault comes where an entry or the seal has to be
+  pub fault_unreadable : (fault : ArchiveFault) → IsFaultBefore ENTRY_MAX rest fault → HasMore rest
+      → ¬ (IsReadable body)
+  fault_unreadable fault bad more readable =
+      let next = begins_some entries rest more (rest_of entries rest body parts are fit readable) in
+      fault_excludes ENTRY_MAX [] rest _ (fault_later ENTRY_MAX [] rest fault bad) next.0 next.1 next.2 (tt, tt)
 
-pub as_good : (A : Type 0) → IsAsGood A A
-as_good A = record { there = λ a. a; back = λ a. a }
+  -- something else than the seal comes
+  pub seal_unreadable : ¬ (HasMore rest) → ¬ (Seals (text_of entries) rest) → ¬ (IsReadable body)
+  seal_unreadable over other readable =
+      other (rest_seals entries rest over (rest_of entries rest body parts are fit readable))
 
-pub good_then : (A B C : Type 0) → IsAsGood A B → IsAsGood B C → IsAsGood A C
-good_then A B C f g = record { there = λ a. g.there (f.there a); back = λ c. f.back (g.back c) }
+-- ---- what is behind the entries of a batch
 
--- ---- a batch
+module _ (body rest text front behind : List ℕ) (n : ℕ) (n_is : n ≡ length body - length rest)
+    (front_is : front ≡ take n body) (behind_is : behind ≡ drop n body) (parts : body ≡ text ++ rest) where
+  size : length text ≡ n
+  size = omega (arith, n_is, ap length parts, length-append text rest)
 
-pub readable_none : (rest : List ℕ) → rest ≡ [] → IsReadable rest
-readable_none rest none = ([], record { entries = tt; fits = tt; text = none })
+  first : front ≡ text
+  first = front_is ∙ ap (take n) parts ∙ take_at text rest n size
 
--- an entry comes first, and so it goes on
-pub readable_first : (rest behind : List ℕ) (e : Entry) → BeginsWithEntry ENTRY_MAX rest e behind
-    → IsAsGood (IsReadable rest) (IsReadable behind)
-readable_first rest behind e begins = record { there = there; back = back }
-  where
-    back : IsReadable behind → IsReadable rest
-    back (es, b) = (
-      e ∷ es,
-      record {
-        entries = (begins.entry, b.entries);
-        fits = (begins.fits, b.fits);
-        text = begins.parts ∙ ap (λ (t : List ℕ). entry_text e ++ t) b.text;
-      },
-    )
+  last : behind ≡ rest
+  last = behind_is ∙ ap (drop n) parts ∙ drop_at text rest n size
 
-    there : IsReadable rest → IsReadable behind
-    there ([], b) =
-        absurd (omega (arith, ap length (sym begins.parts ∙ b.text), length-append (entry_text e) behind, text_some e))
-    there (f ∷ es, b) =
-        let other : BeginsWithEntry ENTRY_MAX rest f (text_of es) = record {
-          entry = b.entries.0;
-          fits = b.fits.0;
-          carries = entry_carries ENTRY_MAX f (omega arith) b.entries.0 b.fits.0;
-          parts = b.text;
-        } in
-        let same = one_beginning ENTRY_MAX ENTRY_MAX rest e f behind (text_of es) begins other in
-        (es, record { entries = b.entries.1; fits = b.fits.1; text = same.1 })
+  pub seal_is : Seals front behind → Seals text rest
+  seal_is seals = subst (λ (t : List ℕ). Seals t rest) first (subst (Seals front) last seals)
 
--- none does
-pub unreadable : (rest : List ℕ) (fault : ArchiveFault) → IsFaultBefore ENTRY_MAX rest fault → 0 < length rest
-    → ¬ (IsReadable rest)
-unreadable rest fault bad some ([], b) = omega (arith, ap length b.text, some)
-unreadable rest fault bad some (f ∷ es, b) =
-    fault_excludes ENTRY_MAX [] rest _ (fault_later ENTRY_MAX [] rest fault bad) f (text_of es) (record {
-      entry = b.entries.0;
-      fits = b.fits.0;
-      carries = entry_carries ENTRY_MAX f (omega arith) b.entries.0 b.fits.0;
-      parts = b.text;
-    }) (tt, tt)
+  pub other_seal : (offset at : ℕ) → ¬ (Seals front behind) → at ≡ position (offset + length front)
+      → IsOtherSeal text rest offset (Journal (Checksum at))
+  other_seal offset at other place = record {
+    other = λ seals. other (subst (λ (t : List ℕ). Seals t behind) (sym first) (subst (Seals text) (sym last) seals));
+    told_is = ap (λ (k : ℕ). Journal (Checksum k)) (place ∙ ap (λ (t : List ℕ). position (offset + length t)) first);
+  }
 
 -- a batch was read up to here
 pub record IsReadUpTo (body rest : List ℕ) : Type 0 where
   pub entries : List Entry
   pub parts : body ≡ text_of entries ++ rest
-  pub before : IsBatch entries (text_of entries)
-
-pub reads_begin : (body : List ℕ) → IsReadUpTo body body
-reads_begin body = record {
-  entries = [];
-  parts = refl;
-  before = record { entries = tt; fits = tt; text = refl };
-}
-
-pub reads_more : (body rest behind : List ℕ) (e : Entry) → IsReadUpTo body rest
-    → BeginsWithEntry ENTRY_MAX rest e behind → IsReadUpTo body behind
-reads_more body rest behind e r begins = record {
-  entries = r.entries ++ e ∷ [];
-  parts = text_goes_on r.entries e body rest behind r.parts begins.parts;
-  before = record {
-    entries = all_append IsEntry r.entries (e ∷ []) r.before.entries (begins.entry, tt);
-    fits = all_append (λ (x : Entry). length x.octets ≤ ENTRY_MAX) r.entries (e ∷ []) r.before.fits (begins.fits, tt);
-    text = refl;
-  };
-}
+  pub before : AreEntries entries (text_of entries)
 
 position_within : (rest : List ℕ) (fault : ArchiveFault) → IsFaultBefore ENTRY_MAX rest fault
     → position_of fault ≤ length rest
@@ -139,22 +107,10 @@ pub record IsCheckedUpTo (file rest : List ℕ) : Type 0 where
   pub readable : AllByRecursion IsReadable bodies
   pub parts : file ≡ batches_text bodies ++ rest
 
-pub checks_begin : (file : List ℕ) → IsCheckedUpTo file file
-checks_begin file = record { bodies = []; readable = tt; parts = refl }
-
-pub checks_more : (file rest body behind : List ℕ) → IsCheckedUpTo file rest → IsReadable body
-    → rest ≡ open_batch body ++ behind → IsCheckedUpTo file behind
-checks_more file rest body behind c readable is = record {
-  bodies = c.bodies ++ body ∷ [];
-  readable = all_append IsReadable c.bodies (body ∷ []) c.readable (readable, tt);
-  parts = c.parts ∙ ap (λ (t : List ℕ). batches_text c.bodies ++ t) is
-      ∙ sym (append_assoc (batches_text c.bodies) (open_batch body) behind) ∙ sym (text-push c.bodies body behind);
-}
-
-pub journal_fault : (file rest body behind : List ℕ) (offset : ℕ) (told : ArchiveFault) → IsCheckedUpTo file rest
+pub journal_fault : (file rest body behind : List ℕ) (offset : ℕ) (told : JournalDamage) → IsCheckedUpTo file rest
     → IsBody body → rest ≡ open_batch body ++ behind
     → offset ≡ length file - length behind - length body → length file < 2 ^ 64
-    → (offset + length body < 2 ^ 64 → IsBatchFault body offset told) → IsJournalFault file told
+    → (offset + length body < 2 ^ 64 → IsBatchDamage body offset told) → IsJournalFault file told
 journal_fault file rest body behind offset told c sized is place small fault =
     let number = to_le_bytes w32 (length body) in
     let size : length file ≡ length (batches_text c.bodies) + (suc (length number + length body) + length behind) =
@@ -176,43 +132,22 @@ journal_fault file rest body behind offset told c sized is place small fault =
       fault = fault (omega arith);
     }
 
-pub whole_closed : (rest : List ℕ) → IsClosed rest → IsWholeJournal rest
-whole_closed rest closed = record {
-  bodies = [];
-  batches = record { tail = rest; text = refl; closed = closed; sized = tt };
-  readable = tt;
-}
-
-module _ (rest body behind : List ℕ) (sized : IsBody body) (is : rest ≡ open_batch body ++ behind) where
-  pub whole_parts : (w : IsWholeJournal rest) → IsReadable body × IsWholeJournal behind
-  whole_parts w = of w.bodies w.batches w.readable
-    where
-      of : (bodies : List (List ℕ)) → HasBatches rest bodies → AllByRecursion IsReadable bodies
-          → IsReadable body × IsWholeJournal behind
-      of [] h all = absurd (h.closed body behind sized (sym h.text ∙ is))
-      of (b ∷ bodies) h all =
-          let same = same_batch body b behind (batches_text bodies ++ h.tail) sized h.sized.0
-          (sym is ∙ h.text ∙ append_assoc (open_batch b) (batches_text bodies) h.tail) in (
-            subst IsReadable (sym same.0) all.0,
-            record {
-              bodies = bodies;
-              batches = record { tail = h.tail; text = same.1; closed = h.closed; sized = h.sized.1 };
-              readable = all.1;
-            },
-          )
-
-  pub whole_more : IsReadable body → IsWholeJournal behind → IsWholeJournal rest
-  whole_more readable w = record {
-    bodies = body ∷ w.bodies;
-    batches = record {
-      tail = w.batches.tail;
-      text = is ∙ ap (λ (t : List ℕ). open_batch body ++ t) w.batches.text
-          ∙ sym (append_assoc (open_batch body) (batches_text w.bodies) w.batches.tail);
-      closed = w.batches.closed;
-      sized = (sized, w.batches.sized);
-    };
-    readable = (readable, w.readable);
-  }
-
-  pub whole_first : IsReadable body → IsAsGood (IsWholeJournal rest) (IsWholeJournal behind)
-  whole_first readable = record { there = λ w. (whole_parts w).1; back = λ w. whole_more readable w }
+-- the first batch of a whole journal, and what is behind it
+pub whole_parts : (rest body behind : List ℕ) → IsBody body → rest ≡ open_batch body ++ behind → IsWholeJournal rest
+    → IsReadable body × IsWholeJournal behind
+whole_parts rest body behind sized is w = of w.bodies w.batches w.readable w.nothing_hidden
+  where
+    of : (bodies : List (List ℕ)) (h : HasBatches rest bodies) → AllByRecursion IsReadable bodies
+        → ¬ (HidesBatches h.tail) → IsReadable body × IsWholeJournal behind
+    of [] h all none = absurd (h.closed body behind sized (sym h.text ∙ is))
+    of (b ∷ bodies) h all none =
+        let same = same_batch body b behind (batches_text bodies ++ h.tail) sized h.sized.0
+        (sym is ∙ h.text ∙ append_assoc (open_batch b) (batches_text bodies) h.tail) in (
+          subst IsReadable (sym same.0) all.0,
+          record {
+            bodies = bodies;
+            batches = record { tail = h.tail; text = same.1; closed = h.closed; sized = h.sized.1 };
+            readable = all.1;
+            nothing_hidden = none;
+          },
+        )

@@ -12,13 +12,13 @@ use Rattle.archive_sets.specs.declared.range.InRange.{InRange}
 use Rattle.store_reading.specs.Days.{IsAfter, IsDayBelow}
 use Rattle.store_reading.specs.Folders.{AreNamesOf, Opens}
 use Rattle.store_reading.specs.Names.{HaveSegment, IsNextDay}
-use Rattle.store_reading.specs.Damages.{OfLeft}
+use Rattle.store_reading.specs.Damages.{AreReadable, OfLeft}
 use Rattle.store_reading.specs.Segments.{IsSegmentInput}
 use Rattle.store_reading.specs.Whole.{DaysAreWhole, EarlierAreWhole}
 use Rattle.record_store.specs.Holdings.{IsReadable, IsWholeJournal}
 use Rattle.store_reading.specs.Whole.{IsWholeJournalAt, IsWholeSegment, IsWholeSegmentAt, JournalsAreWhole, MeetsRange}
 use Rattle.store_reading.specs.Whole.{NamedMemoryIsWhole, NamedSegmentsAreWhole, SegmentsAreWhole}
-use Rattle.store_reading.proofs.Batched.{BatchAdded, JournalAdded}
+use Rattle.store_reading.proofs.Batched.{JournalAdded}
 use Rattle.store_reading.proofs.DayOrders.{day_text, day_total}
 use Rattle.store_reading.proofs.DaysRead.{some_not}
 use Rattle.store_reading.proofs.NextDays.{after_or_not}
@@ -38,40 +38,24 @@ if_ok_more (Err e) P Q from p = tt
 
 -- ---- a journal
 
-pub batch_read : (old new : List Entry) (body rest : List ℕ) → BatchAdded old new body rest → rest ≡ []
-    → IsReadable body
-batch_read old new body rest b none = (
-  b.entries,
-  record {
-    entries = b.are;
-    fits = b.fit;
-    text = b.parts ∙ ap (λ (t : List ℕ). text_of b.entries ++ t) none ∙ append-nil (text_of b.entries);
-  },
-)
-
 pub journal_read : (old new : List Entry) (file rest : List ℕ) → JournalAdded old new file rest → IsClosed rest
-    → IsWholeJournal file
+    → AreReadable file
 journal_read old new file rest j closed = record {
   bodies = j.bodies;
   batches = record { tail = rest; text = j.parts; closed = closed; sized = j.sized };
   readable = j.readable;
 }
 
--- what an input had left is what it gave
-pub left_whole : (left : Option (List ℕ)) (octets : List ℕ) → IfSome left (λ (input : List ℕ). octets ≡ input)
-    → IsWholeJournal octets → IfSome left IsWholeJournal
-left_whole None octets is whole = tt
-left_whole (Some input) octets is whole = subst IsWholeJournal is whole
+-- what is so of each file that was read is so of the one under a name
+pub of_read : (file : Option (List ℕ)) (P Q : List ℕ → Type 0) → IsSomeAnd file P → ((f : List ℕ) → P f → Q f)
+    → IsSomeAnd file Q
+of_read None P Q read each = absurd read
+of_read (Some f) P Q read each = each f read
 
-file_whole : (P : List ℕ → Type 0) (file left : Option (List ℕ)) → IsSomeAnd file (λ octets. left ≡ Some octets)
-    → IfSome left P → IfSome file P
-file_whole P None left opens whole = tt
-file_whole P (Some f) left opens whole = subst (λ (l : Option (List ℕ)). IfSome l P) opens whole
-
--- the journal that was opened
-pub opened_whole : (files : Files) (name : List ℕ) (d : InputState) → Opens files name d → IfSome d.left IsWholeJournal
-    → IsWholeJournalAt files name
-opened_whole files name d opens whole = λ journal. file_whole IsWholeJournal (files name) d.left opens whole
+pub if_read : (file : Option (List ℕ)) (P Q : List ℕ → Type 0) → IsSomeAnd file P → ((f : List ℕ) → P f → Q f)
+    → IfSome file Q
+if_read None P Q read each = tt
+if_read (Some f) P Q read each = each f read
 
 -- the mixed segment that was opened
 pub opened_mixed : (files : Files) (name : List ℕ) (d : InputState) → Opens files name d

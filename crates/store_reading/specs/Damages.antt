@@ -8,13 +8,16 @@ use Rattle.archive_text.specs.Positions.{later, position_of}
 use Rattle.archive_text.specs.Text.{text_of}
 use Rattle.archive_text.specs.declared.fault.ArchiveFault.{ArchiveFault}
 use Rattle.archive_text.specs.declared.limits.TheConstants.{ENTRY_MAX}
-use Rattle.journal.specs.Batches.{IsBody, batches_text, open_batch}
-use Rattle.record_store.specs.Holdings.{IsBatch, IsOfPeriod, IsReadable, IsWholeJournal}
+use Rattle.journal.specs.Batches.{HasBatches, IsBody, batches_text, open_batch}
+use Rattle.record_store.specs.Holdings.{AreEntries, IsOfPeriod, IsReadable, IsWholeJournal}
+use Rattle.record_store.specs.Seals.{HasMore, HidesBatches, Seals}
+use Rattle.record_store.specs.declared.journal_damage.JournalDamage.{JournalDamage}
+use Rattle.record_store.specs.declared.journal_damage.JournalDamage.TheVariants.{Archive as No_entry, Checksum, Hidden}
 use Rattle.record_store.specs.Segments.{IsArchiveOfDay, segment_name}
 use Rattle.store_reading.specs.declared.fault.CheckFault.{CheckFault}
 use Rattle.store_reading.specs.declared.fault.CheckFault.TheVariants.{Damaged, Input, Memory}
 use Rattle.store_reading.specs.declared.fault.FileFault.{FileFault}
-use Rattle.store_reading.specs.declared.fault.FileFault.TheVariants.{Archive, Digest, OtherDay}
+use Rattle.store_reading.specs.declared.fault.FileFault.TheVariants.{Archive, Digest, Journal, OtherDay}
 use Rattle.store_reading.specs.Segments.{IsNamedBy}
 use Rattle.store_reading.specs.Whole.{IsWholeSegment}
 
@@ -49,6 +52,7 @@ abbrev pub IsArchiveDamage : List ℕ → List ℕ → FileFault → Type 0
 IsArchiveDamage period file (Archive fault) = IsArchiveFault ENTRY_MAX file fault
 IsArchiveDamage period file (OtherDay at) = IsOtherDayAt period file at
 IsArchiveDamage period file Digest = ⊥
+IsArchiveDamage period file (Journal damage) = ⊥
 
 -- the octets are damaged so
 pub record IsDamagedArchive (period file : List ℕ) (fault : FileFault) : Type 0 where
@@ -60,6 +64,7 @@ abbrev pub IsSegmentDamage : List ℕ → List ℕ → List ℕ → FileFault �
 IsSegmentDamage period name file (Archive fault) = IsArchiveDamage period file (Archive fault)
 IsSegmentDamage period name file (OtherDay at) = IsArchiveDamage period file (OtherDay at)
 IsSegmentDamage period name file Digest = IsArchiveOfDay period file × (name ≢ segment_name period file)
+IsSegmentDamage period name file (Journal damage) = ⊥
 
 -- the segment of a period that has a name is damaged so
 pub record IsDamagedSegment (period name file : List ℕ) (fault : FileFault) : Type 0 where
@@ -78,21 +83,42 @@ pub record IsFirstFault (text : List ℕ) (at : ℕ) (told : FileFault) : Type 0
   pub fault : ArchiveFault
   pub is : IsFaultBefore ENTRY_MAX text fault
   pub later_fault : ArchiveFault
-  pub told_is : told ≡ Archive later_fault
+  pub told_is : told ≡ Journal (No_entry later_fault)
   pub place : at + position_of fault < 2 ^ 64 → later_fault ≡ later at fault
+
+-- the rest of a batch is no seal of the text before it, which is told where the rest begins
+pub record IsOtherSeal (text rest : List ℕ) (offset : ℕ) (told : FileFault) : Type 0 where
+  pub other : ¬ (Seals text rest)
+  pub told_is : told ≡ Journal (Checksum (position (offset + length text)))
 
 -- a batch, which begins at an offset of its file, is no sequence of entries: behind these ones comes a fault
 pub record IsBatchFault (body : List ℕ) (offset : ℕ) (told : ArchiveFault) : Type 0 where
   pub entries : List Entry
   pub rest : List ℕ
   pub parts : body ≡ text_of entries ++ rest
-  pub before : IsBatch entries (text_of entries)
+  pub before : AreEntries entries (text_of entries)
   pub fault : ArchiveFault
   pub is : IsFaultBefore ENTRY_MAX rest fault
   pub place : told ≡ later (offset + length (text_of entries)) fault
 
--- the fault of the first batch of a journal that is no sequence of entries
-pub record IsJournalFault (file : List ℕ) (told : ArchiveFault) : Type 0 where
+-- or something is behind its entries that is no seal of theirs
+pub record IsSealFault (body : List ℕ) (offset at : ℕ) : Type 0 where
+  pub entries : List Entry
+  pub rest : List ℕ
+  pub parts : body ≡ text_of entries ++ rest
+  pub before : AreEntries entries (text_of entries)
+  pub over : ¬ (HasMore rest)
+  pub other : ¬ (Seals (text_of entries) rest)
+  pub place : at ≡ offset + length (text_of entries)
+
+-- so a batch can be damaged
+abbrev pub IsBatchDamage : List ℕ → ℕ → JournalDamage → Type 0
+IsBatchDamage body offset (No_entry fault) = IsBatchFault body offset fault
+IsBatchDamage body offset (Checksum at) = IsSealFault body offset at
+IsBatchDamage body offset (Hidden at) = ⊥
+
+-- the fault of the first batch of a journal that is damaged
+pub record IsJournalFault (file : List ℕ) (told : JournalDamage) : Type 0 where
   pub bodies : List (List ℕ)
   pub readable : AllByRecursion IsReadable bodies
   pub body : List ℕ
@@ -101,24 +127,50 @@ pub record IsJournalFault (file : List ℕ) (told : ArchiveFault) : Type 0 where
   pub parts : file ≡ batches_text bodies ++ open_batch body ++ behind
   pub offset : ℕ
   pub begins : offset + length body + length behind ≡ length file
-  pub fault : IsBatchFault body offset told
+  pub fault : IsBatchDamage body offset told
 
--- of a batch an entry can be damaged, and its day is no matter
-abbrev pub IsBatchDamage : List ℕ → ℕ → FileFault → Type 0
-IsBatchDamage body offset (Archive fault) = IsBatchFault body offset fault
-IsBatchDamage body offset (OtherDay at) = ⊥
-IsBatchDamage body offset Digest = ⊥
+-- what is behind the batches of a journal hides others, from a position on
+pub record IsHiddenAt (file : List ℕ) (at : ℕ) : Type 0 where
+  pub bodies : List (List ℕ)
+  pub batches : HasBatches file bodies
+  pub hides : HidesBatches batches.tail
+  pub place : at ≡ length (batches_text bodies)
 
--- of a journal only a batch can be damaged
+-- it hides none
+pub record HidesNothing (file : List ℕ) : Type 0 where
+  pub bodies : List (List ℕ)
+  pub batches : HasBatches file bodies
+  pub hides_none : ¬ (HidesBatches batches.tail)
+
+-- each batch of a journal is one of entries
+pub record AreReadable (file : List ℕ) : Type 0 where
+  pub bodies : List (List ℕ)
+  pub batches : HasBatches file bodies
+  pub readable : AllByRecursion IsReadable bodies
+
+-- so a journal can be damaged
+abbrev pub IsDamageIn : List ℕ → JournalDamage → Type 0
+IsDamageIn file (No_entry fault) = IsJournalFault file (No_entry fault)
+IsDamageIn file (Checksum at) = IsJournalFault file (Checksum at)
+IsDamageIn file (Hidden at) = IsHiddenAt file at
+
 abbrev pub IsJournalDamage : List ℕ → FileFault → Type 0
-IsJournalDamage file (Archive fault) = IsJournalFault file fault
+IsJournalDamage file (Archive fault) = ⊥
 IsJournalDamage file (OtherDay at) = ⊥
 IsJournalDamage file Digest = ⊥
+IsJournalDamage file (Journal damage) = IsDamageIn file damage
+
+-- the fault that is told is that of a batch
+abbrev pub IsBatchFileDamage : List ℕ → ℕ → FileFault → Type 0
+IsBatchFileDamage body offset (Archive fault) = ⊥
+IsBatchFileDamage body offset (OtherDay at) = ⊥
+IsBatchFileDamage body offset Digest = ⊥
+IsBatchFileDamage body offset (Journal damage) = IsBatchDamage body offset damage
 
 -- a batch, which begins at an offset of its file, is damaged so
 pub record IsDamagedBatch (body : List ℕ) (offset : ℕ) (fault : FileFault) : Type 0 where
   pub not_readable : ¬ (IsReadable body)
-  pub told : offset + length body < 2 ^ 64 → IsBatchDamage body offset fault
+  pub told : offset + length body < 2 ^ 64 → IsBatchFileDamage body offset fault
 
 -- the octets of a journal are damaged so
 pub record IsDamagedJournal (file : List ℕ) (fault : FileFault) : Type 0 where

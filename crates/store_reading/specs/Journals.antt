@@ -9,8 +9,11 @@ use Rattle.archive_sets.specs.declared.range.InRange.{InRange}
 use Rattle.archive_join.specs.Ranges.{IsOfRange}
 use Rattle.record_store.specs.Holdings.{JournalHas, SegmentHas}
 use Rattle.record_store.specs.Names.{IsJournal}
+use Rattle.store_reading.specs.Damages.{HidesNothing, IsHiddenAt}
 use Rattle.store_reading.specs.Names.{SomeName}
 use Rattle.store_reading.specs.Segments.{HasAsSegment}
+use Rattle.store_reading.specs.declared.journal_file.JournalFile.{JournalFile}
+use Rattle.store_reading.specs.declared.journal_file.JournalFile.TheVariants.{Hidden, Octets}
 
 -- the file under a name has the entry, as a journal
 abbrev pub HasAsJournal : Files → List ℕ → Entry → Type 0
@@ -51,9 +54,10 @@ pub record IsOfMemory (files : Files) (range : InRange) (text : List ℕ) : Type
 abbrev pub GivesAll : InputState → InputState → List ℕ → Type 0
 GivesAll d e octets = IfSome d.left (λ (input : List ℕ). octets ≡ input)
 
--- the entries of the journal that an input has left are added
-abbrev pub AddsJournal : InputState → List Entry → List Entry → Type 0
-AddsJournal d old new = IfSome d.left (λ (input : List ℕ). Adds old new (JournalHas input))
+-- what was read of a journal: its octets, which hide no batches, or that it hides some, and where
+abbrev pub IsJournalFile : JournalFile → List ℕ → Type 0
+IsJournalFile (Octets octets) file = (octets.items ≡ file) × HidesNothing file
+IsJournalFile (Hidden at) file = IsHiddenAt file at
 
 -- the entries of the range that a mixed segment has are added, which an input has left
 abbrev pub AddsMixed : InRange → InputState → List Entry → List Entry → Type 0

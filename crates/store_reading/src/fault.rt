@@ -3,13 +3,14 @@
 use archive_streams::{EntriesFault, InputFault};
 use archive_text::ArchiveFault;
 use disk::{DiskFault, FileName};
+use record_store::JournalDamage;
 use std::alloc::{AllocError, AllocFailed};
 use thiserror::Error;
 
 /// What is wrong with the octets of a file. Positions count octets from its start.
 #[derive(Clone, Copy, Debug, PartialEq, Eq, Error)]
 pub enum FileFault {
-    /// A segment is no archive, or a batch of a journal is no sequence of entries.
+    /// A segment is no archive.
     #[error("{0}")]
     Archive(ArchiveFault),
     /// An entry of a segment is of another day; `at` is the position of its first digit.
@@ -18,6 +19,9 @@ pub enum FileFault {
     /// The SHA-256 of a segment is not the one in its name.
     #[error("another digest")]
     Digest,
+    /// A journal is damaged.
+    #[error("{0}")]
+    Journal(JournalDamage),
 }
 
 /// Why a folder was not read.

@@ -1,34 +1,27 @@
 //! The entries of journals.
-ghost use Rattle.std.specs.Prelude.{◌≡◌, ◌≤◌, ◌++◌, IfErr, IfNone, IfOk, IfSome, List, ℕ, OnOk, length};
-ghost use Rattle.journal.specs.Batches.{IsBody, IsClosed, open_batch};
+ghost use Rattle.std.specs.Prelude.{◌≡◌, ◌≤◌, ◌++◌, IfErr, IfOk, List, ℕ, OnOk, length};
 ghost use Rattle.archive_text.specs.Entries.{IsEntry};
 ghost use Rattle.archive_text.specs.EntryViews.{entry_of};
 ghost use Rattle.record_store.specs.Holdings.{BatchHas, IsReadable, IsWholeJournal, JournalHas};
 ghost use Rattle.record_store.specs.Names.{IsJournal};
+ghost use Rattle.record_store.specs.Seals.{Seals};
 ghost use Rattle.store_reading.specs.Causes.{IsCause, file_causes};
-ghost use Rattle.store_reading.specs.Damages.{IsDamagedBatch, IsDamagedJournal, IsFirstFault, OfLeft, Tells};
-ghost use Rattle.store_reading.specs.Journals.{Adds, AddsFirst, AddsJournal, GivesAll, HasAsJournal};
+ghost use Rattle.store_reading.specs.Damages.{AreReadable, IsDamagedBatch, IsDamagedJournal, IsFirstFault};
+ghost use Rattle.store_reading.specs.Damages.{IsOtherSeal, Tells};
+ghost use Rattle.store_reading.specs.Journals.{Adds, AddsFirst, HasAsJournal, IsJournalFile};
 ghost use Rattle.store_reading.specs.Sources.{set_entries};
 ghost use Rattle.store_reading.specs.Whole.{IsWholeJournalAt};
 
 use crate::fault::{CheckFault, FileFault, ReadFault};
 use crate::folder::Folder;
+use crate::journal_file::{JournalFile, first_batch, read_journal};
 use crate::names::is_journal;
-use crate::segment::open_file;
 use archive_pages::PagedArchive;
-use archive_streams::InputFault;
 use archive_text::{AddFault, ArchiveFault, ENTRY_MAX, EntryView, Store, read_entry};
 use disk::FileName;
-use journal::batch_len;
-use octet_devices::{Input, ReadAllFault, read_all};
+use record_store::{JournalDamage, has_entry, seals};
 use std::alloc::Global;
 use syslog_grammar::view;
-
-// the most octets of a journal that is read
-const JOURNAL_MAX: usize = 1 << 40;
-
-// the octets before those of a batch
-const HEAD: usize = 5;
 
 /// Adds an entry to a set.
 pub(crate) fn add_entry(
@@ -70,8 +63,26 @@ fn add_first<'a>(
             add_entry(alloc, set, &entry)?;
             Ok(behind)
         }
-        Err(fault) => Err(CheckFault::Damaged(FileFault::Archive(fault.later(at)))),
+        Err(fault) => Err(CheckFault::Damaged(FileFault::Journal(JournalDamage::Archive(fault.later(
+            at,
+        ))))),
     }
+}
+
+// Whether the rest of a batch is the seal of the text before it, or nothing. The batch begins at an offset
+// of its journal.
+fn check_seal(body: &[u8], rest: &[u8], offset: u64) -> Result<(), CheckFault>
+    ensures sealed { OnOk result ((text : List ℕ) → body.now ≡ text ++ rest.now
+        → Seals text rest.now) }
+    ensures damaged { IfErr result (λ fault. (text : List ℕ) → body.now ≡ text ++ rest.now
+        → Tells fault (IsOtherSeal text rest.now offset)) }
+{
+    let (text, behind) = body.split_at(body.len().saturating_sub(rest.len()));
+    if seals(text, behind) {
+        return Ok(());
+    }
+    let at = offset.saturating_add(text.len() as u64);
+    Err(CheckFault::Damaged(FileFault::Journal(JournalDamage::Checksum { at })))
 }
 
 // Adds the entries of a batch, which begins at an offset of its journal.
@@ -86,29 +97,17 @@ fn add_batch(
     ensures damaged { IfErr result (λ fault. Tells fault (IsDamagedBatch body.now offset)) }
 {
     let mut rest = body;
-    'entries: while !rest.is_empty() {
+    'entries: while has_entry(rest) {
         let read = (body.len() as u64).saturating_sub(rest.len() as u64);
         rest = add_first(alloc, set, rest, offset.saturating_add(read))?;
     }
-    Ok(())
-}
-
-/// The first batch of a journal's octets, and what is behind it; None if no batch there is open and
-/// whole.
-pub fn first_batch(octets: &[u8]) -> Option<(&[u8], &[u8])>
-    ensures some { IfSome result (λ r. IsBody r.0.now
-        × (octets.now ≡ open_batch r.0.now ++ r.1.now)) }
-    ensures none { IfNone result (IsClosed octets.now) }
-{
-    let len = batch_len(octets)?;
-    let (_, behind) = octets.split_at(HEAD);
-    Some(behind.split_at(len))
+    check_seal(body, rest, offset)
 }
 
 // Adds the entries of all batches of a journal.
 fn add_batches(alloc: Global, set: &mut PagedArchive, file: &[u8]) -> Result<(), CheckFault>
     ensures adds { OnOk result (Adds (set_entries set.old) (set_entries set.new) (JournalHas file.now)) }
-    ensures whole { OnOk result (IsWholeJournal file.now) }
+    ensures readable { OnOk result (AreReadable file.now) }
     ensures damaged { IfErr result (λ fault. Tells fault (IsDamagedJournal file.now)) }
 {
     let mut rest = file;
@@ -120,40 +119,36 @@ fn add_batches(alloc: Global, set: &mut PagedArchive, file: &[u8]) -> Result<(),
     Ok(())
 }
 
-/// Reads a journal.
-///
-/// # Errors
-/// The reader failed, gave no end, or gave more than 2^40 octets; or lack of memory.
-pub fn read_octets<R: Input>(alloc: Global, reader: &mut R) -> Result<Vec<u8>, CheckFault>
-    ensures given { IfOk result (λ v. GivesAll (R.state reader.old) (R.state reader.new) v.items) }
-    ensures not_damaged { IfErr result (λ fault. Tells fault (λ damage. ⊥)) }
+// Adds the entries of a journal that was read.
+fn add_read(alloc: Global, set: &mut PagedArchive, journal: &JournalFile) -> Result<(), CheckFault>
+    ensures adds { OnOk result ((file : List ℕ) → IsJournalFile journal.now file
+        → Adds (set_entries set.old) (set_entries set.new) (JournalHas file)) }
+    ensures whole { OnOk result ((file : List ℕ) → IsJournalFile journal.now file
+        → IsWholeJournal file) }
+    ensures damaged { IfErr result (λ fault. (file : List ℕ) → IsJournalFile journal.now file
+        → Tells fault (IsDamagedJournal file)) }
 {
-    match read_all(alloc, reader, JOURNAL_MAX) {
-        Ok(octets) => {
-            if octets.len() < JOURNAL_MAX {
-                return Ok(octets);
-            }
-            Err(CheckFault::Input(InputFault::Endless))
-        }
-        Err(ReadAllFault::Device) => Err(CheckFault::Input(InputFault::Device)),
-        Err(ReadAllFault::Endless) => Err(CheckFault::Input(InputFault::Endless)),
-        Err(ReadAllFault::Memory) => Err(CheckFault::Memory),
+    match journal {
+        JournalFile::Octets(octets) => add_batches(alloc, set, octets),
+        JournalFile::Hidden { at } => Err(CheckFault::Damaged(FileFault::Journal(
+            JournalDamage::Hidden { at: *at },
+        ))),
     }
 }
 
-fn add_octets<R: Input>(
-    alloc: Global,
-    set: &mut PagedArchive,
-    reader: &mut R,
-) -> Result<(), CheckFault>
-    ensures adds { OnOk result (AddsJournal (R.state reader.old) (set_entries set.old)
-        (set_entries set.new)) }
-    ensures whole { OnOk result (IfSome (R.state reader.old).left IsWholeJournal) }
-    ensures damaged { IfErr result (λ fault. OfLeft (R.state reader.old) (λ file.
-        Tells fault (IsDamagedJournal file))) }
+/// Whether a journal that was read is whole: each of its batches is a sequence of entries and their seal,
+/// or entries alone, as older programs wrote it, and behind them nothing hides others.
+///
+/// # Errors
+/// The first fault, and where it is; or lack of memory.
+pub fn check_journal(alloc: Global, journal: &JournalFile) -> Result<(), CheckFault>
+    ensures whole { OnOk result ((file : List ℕ) → IsJournalFile journal.now file
+        → IsWholeJournal file) }
+    ensures damaged { IfErr result (λ fault. (file : List ℕ) → IsJournalFile journal.now file
+        → Tells fault (IsDamagedJournal file)) }
 {
-    let octets = read_octets(alloc, reader)?;
-    add_batches(alloc, set, &octets)
+    let mut set = PagedArchive::new(alloc);
+    add_read(alloc, &mut set, journal)
 }
 
 /// Adds the entries of the file of a name, where that is a journal.
@@ -175,8 +170,8 @@ pub(crate) fn add_journal<F: Folder>(
     if !is_journal(name.as_octets()) {
         return Ok(());
     }
-    let mut file = open_file(alloc, folder, name)?;
-    match add_octets(alloc, set, &mut file) {
+    let journal = read_journal(alloc, folder, name)?;
+    match add_read(alloc, set, &journal) {
         Ok(()) => Ok(()),
         Err(fault) => Err(fault.of(name.copy(alloc)?)),
     }

@@ -5,7 +5,7 @@ use std::alloc::Global;
 use std::io::{self, Cursor};
 use std::test::Fail;
 use std::{env, fs, process};
-use store_engine::{NoStore, SystemFolder, read_store, report_no_store};
+use store_engine::{NoStore, SystemFolder, read_store, report_no_store, verify_store};
 use store_reading::Folder;
 
 // the name of a segment, and that of another; their octets are B
@@ -127,6 +127,52 @@ fn a_segment_with_the_name_of_another_is_told(rt: HostRuntime) -> Result<(), Fai
     assert_eq!(rt; status, 1);
     assert!(rt; text == joined(alloc, &[A])?);
     assert!(rt; line == joined(alloc, &[OTHER, b" digest\n"])?);
+    Ok(())
+}
+
+// the status of `verify`, and what it writes
+fn verify_of(alloc: Global, view: &mut View) -> Result<(u8, Vec<u8>, Vec<u8>), Fail> {
+    let mut output = ToWrite::new(Vec::new(alloc));
+    let mut diagnostics = ToWrite::new(Vec::new(alloc));
+    let status = verify_store(alloc, view, &mut output, &mut diagnostics);
+    Ok((status, output.into_inner(), diagnostics.into_inner()))
+}
+
+#[test]
+fn each_damaged_file_has_a_line(rt: HostRuntime) -> Result<(), Fail> {
+    let alloc = rt.alloc();
+    let (status, lines, line) = verify_of(alloc, &mut make_view(stored(alloc)?))?;
+    assert_eq!(rt; status, 0);
+    assert!(rt; lines.is_empty());
+    assert!(rt; line.is_empty());
+    let mut disk = stored(alloc)?;
+    put(alloc, &mut disk, OTHER, &[B])?;
+    put(
+        alloc,
+        &mut disk,
+        b"journal.2",
+        &[&[1, 31, 0, 0, 0], A, b"#12345678"],
+    )?;
+    put(alloc, &mut disk, b"journal.3", &[&[9, 9]])?;
+    let (status, lines, line) = verify_of(alloc, &mut make_view(disk))?;
+    assert_eq!(rt; status, 1);
+    assert!(rt;
+        lines
+            == joined(
+                alloc,
+                &[
+                    OTHER,
+                    b" digest\njournal.2 checksum 27\njournal.3 hidden 0\n",
+                ],
+            )?
+    );
+    assert!(rt; line.is_empty());
+    let mut view = make_view(stored(alloc)?);
+    view.octets = 7;
+    let (status, lines, line) = verify_of(alloc, &mut view)?;
+    assert_eq!(rt; status, 2);
+    assert!(rt; lines.is_empty());
+    assert!(rt; line == joined(alloc, &[FIRST, b" read fault\n"])?);
     Ok(())
 }
 

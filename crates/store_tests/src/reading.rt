@@ -1,7 +1,8 @@
 use archive_sets::InRange;
-use archive_text::{ENTRY_MAX, read_entry};
+use archive_text::{ArchiveFault, ENTRY_MAX, read_entry};
 use disk::{Disk, DiskFault, FileName, MemoryDisk};
 use octet_devices::{FromRead, Fuse, ToWrite};
+use record_store::JournalDamage;
 use std::alloc::Global;
 use std::io::Cursor;
 use std::test::Fail;
@@ -30,6 +31,11 @@ const C: &[u8] = b"45 <14>1 2024-02-29T23:30:00.000000Z h a - - - y";
 
 const D: &[u8] = b"45 <14>1 2024-03-01T00:00:00.000000Z h a - - - w";
 
+// the seals of batches of A and of D
+const SEAL_A: &[u8] = &[35, 22, 0, 0, 0, 208, 198, 139, 87];
+
+const SEAL_D: &[u8] = &[35, 48, 0, 0, 0, 232, 132, 159, 219];
+
 const ALL: InRange = InRange {
     from: None,
     to: None,
@@ -37,7 +43,8 @@ const ALL: InRange = InRange {
 };
 
 // The files of a disk, opened whole. So many are gone at first; so many listings miss a name each; the
-// file that is opened as that of a number fails when so many octets of it were read.
+// file that is opened as that of a number fails when so many octets of it were read; the first that is
+// opened may have had other octets.
 #[derive(Drop)]
 struct View {
     disk: MemoryDisk,
@@ -46,6 +53,7 @@ struct View {
     opened: u64,
     failing: u64,
     octets: u64,
+    early: Option<Vec<u8>>,
 }
 
 impl Folder for View {
@@ -76,6 +84,9 @@ impl Folder for View {
         let mut octets = vec![in alloc; 0u8; 4096]?;
         let n = self.disk.read(name, 0, &mut octets)?;
         octets.truncate(n);
+        if let Some(early) = self.early.take() {
+            octets = early;
+        }
         let limit = if self.opened == self.failing {
             self.octets
         } else {
@@ -103,6 +114,7 @@ fn make_view(disk: MemoryDisk) -> View {
         opened: 0,
         failing: u64::MAX,
         octets: 0,
+        early: None,
     }
 }
 
@@ -291,5 +303,97 @@ fn an_entry_of_another_day_is_told(rt: HostRuntime) -> Result<(), Fail> {
         matches!(&answer, Err(ReadFault::Damaged { name: _, fault: found }) if *found == fault)
     );
     assert!(rt; text.is_empty());
+    Ok(())
+}
+
+// a journal of two batches that are sealed
+fn sealed(alloc: Global) -> Result<Vec<u8>, Fail> {
+    let first = joined(alloc, &[&[1, 31, 0, 0, 0], A, SEAL_A])?;
+    let second = joined(alloc, &[&[1, 57, 0, 0, 0], D, SEAL_D])?;
+    joined(alloc, &[&first, &second, &[254]])
+}
+
+// Each bit of a journal is changed: it is told, but where it is one of the octet before no batch.
+#[test]
+fn each_bit_of_a_journal_counts(rt: HostRuntime) -> Result<(), Fail> {
+    let alloc = rt.alloc();
+    let all = joined(alloc, &[A, D])?;
+    let mut same = 0;
+    for at in 0..sealed(alloc)?.len() {
+        for bit in 0..8 {
+            let mut octets = sealed(alloc)?;
+            octets[at] ^= 1 << bit;
+            let mut disk = MemoryDisk::new(alloc);
+            put(alloc, &mut disk, b"journal.1", &[&octets])?;
+            let (answer, text) = written(alloc, &mut make_view(disk), ALL)?;
+            match &answer {
+                Ok(()) => {
+                    same += 1;
+                    assert!(rt; text == all, "{at} {bit}");
+                }
+                Err(
+                    ReadFault::Damaged {
+                        name: _,
+                        fault: FileFault::Journal(_),
+                    },
+                ) => assert!(rt; text.is_empty(), "{at} {bit}"),
+                Err(_) => assert!(rt; false, "{at} {bit}"),
+            }
+        }
+    }
+    assert_eq!(rt; same, 8);
+    Ok(())
+}
+
+// what is told of a journal with these octets
+fn told(alloc: Global, octets: &[u8]) -> Result<Option<JournalDamage>, Fail> {
+    let mut disk = MemoryDisk::new(alloc);
+    put(alloc, &mut disk, b"journal.1", &[octets])?;
+    match written(alloc, &mut make_view(disk), ALL)?.0 {
+        Err(
+            ReadFault::Damaged {
+                name: _,
+                fault: FileFault::Journal(damage),
+            },
+        ) => Ok(Some(damage)),
+        _ => Ok(None),
+    }
+}
+
+#[test]
+fn damage_of_a_journal_is_told_where_it_is(rt: HostRuntime) -> Result<(), Fail> {
+    let alloc = rt.alloc();
+    let rows = [
+        (35, JournalDamage::Checksum { at: 27 }),
+        (26, JournalDamage::Checksum { at: 27 }),
+        (0, JournalDamage::Hidden { at: 0 }),
+        (1, JournalDamage::Hidden { at: 0 }),
+        (36, JournalDamage::Hidden { at: 36 }),
+        (5, JournalDamage::Archive(ArchiveFault::BadFrame { at: 5 })),
+    ];
+    for (at, right) in rows {
+        let mut octets = sealed(alloc)?;
+        octets[at] ^= 64;
+        assert!(rt; told(alloc, &octets)? == Some(right), "{at}");
+    }
+    let mut closed = sealed(alloc)?;
+    closed[0] = 254;
+    assert!(rt; told(alloc, &closed)? == Some(JournalDamage::Hidden { at: 0 }));
+    Ok(())
+}
+
+// A journal whose last batch is not open at first, as where a server opens it meanwhile, is read again.
+#[test]
+fn a_batch_that_is_opened_meanwhile_is_no_damage(rt: HostRuntime) -> Result<(), Fail> {
+    let alloc = rt.alloc();
+    let mut early = sealed(alloc)?;
+    early[0] = 254;
+    let mut disk = MemoryDisk::new(alloc);
+    put(alloc, &mut disk, b"journal.1", &[&sealed(alloc)?])?;
+    let mut view = make_view(disk);
+    view.early = Some(early);
+    let (answer, text) = written(alloc, &mut view, ALL)?;
+    assert!(rt; answer.is_ok());
+    assert!(rt; text == joined(alloc, &[A, D])?);
     Ok(())
 }

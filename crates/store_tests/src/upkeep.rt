@@ -5,6 +5,7 @@ mod compacting;
 use archive_text::ArchiveFault;
 use disk::{Disk, DiskFault, FileName, MemoryDisk};
 use octet_devices::FromRead;
+use record_store::JournalDamage;
 use sha2::{Digest, Sha256};
 use std::alloc::{AllocError, Global};
 use std::io::Cursor;
@@ -192,7 +193,10 @@ fn a_batch_that_is_damaged_is_told(rt: HostRuntime) -> Result<(), Fail> {
             damaged.as_slice(),
             [DamagedFile {
                 name: _,
-                damage: FileFault::Archive(ArchiveFault::BadEntry { at: 5, .. }),
+                damage: FileFault::Journal(JournalDamage::Archive(ArchiveFault::BadEntry {
+                    at: 5,
+                    ..
+                })),
             }]
         )
     );

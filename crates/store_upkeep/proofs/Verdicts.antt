@@ -13,9 +13,11 @@ use Rattle.store_reading.specs.Days.{IsPeriodText}
 use Rattle.store_reading.specs.Folders.{AreNamesOf, Opens}
 use Rattle.store_reading.specs.Damages.{IsDamagedJournal, IsDamagedSegment, IsSegmentDamage, OfLeft, Tells}
 use Rattle.store_reading.specs.Whole.{IsWholeSegment}
+use Rattle.store_reading.specs.Journals.{IsJournalFile}
 use Rattle.store_reading.specs.declared.fault.CheckFault.{CheckFault}
 use Rattle.store_reading.specs.declared.fault.CheckFault.TheVariants.{Damaged, Input, Memory}
 use Rattle.store_reading.specs.declared.fault.FileFault.{FileFault}
+use Rattle.store_reading.specs.declared.journal_file.JournalFile.{JournalFile}
 use Rattle.store_upkeep.specs.Damages.{AddsTo, AreAsTold, AreDamaged, IsDamageOf, IsFoundBy, IsToldAt, IsVerdict}
 use Rattle.store_upkeep.specs.Damages.{IsWholeOrListed, names_of}
 use Rattle.store_upkeep.specs.Whole.{IsDamagedAt, IsWholeAt, IsWholeFile}
@@ -77,10 +79,15 @@ segment_whole_at files name day d segment opened whole file is = record {
       (day_named day other name segment named) (whole file (left_of (files name) d.left file opened is));
 }
 
-pub journal_whole_at : (files : Files) (name : List ℕ) (d : InputState) → IsJournal name → Opens files name d
-    → OfLeft d IsWholeJournal → IsWholeAt files name
-journal_whole_at files name d journal opened whole file is = record {
-  journal = λ named. whole file (left_of (files name) d.left file opened is);
+some_is : (o : Option (List ℕ)) (P : List ℕ → Type 0) (file : List ℕ) → IsSomeAnd o P → o ≡ Some file → P file
+some_is None P file some is = absurd some
+some_is (Some x) P file some is = let same : x ≡ file = cc is in subst P same some
+
+pub journal_whole_at : (files : Files) (name : List ℕ) (read : JournalFile) → IsJournal name
+    → IsSomeAnd (files name) (IsJournalFile read) → ((file : List ℕ) → IsJournalFile read file → IsWholeJournal file)
+    → IsWholeAt files name
+journal_whole_at files name read journal given whole file is = record {
+  journal = λ named. whole file (some_is (files name) (IsJournalFile read) file given is);
   segment = λ day text named. absurd (not_both day name journal named);
 }
 
@@ -91,21 +98,20 @@ other_whole_at files name no_journal no_segment file is = record {
   segment = λ day text named. absurd (no_segment day text named);
 }
 
--- what a check found of a file that was opened
-found_verdict : (files : Files) (name : List ℕ) (d : InputState) (fault : CheckFault) (found : Option FileFault)
-    → Opens files name d → OfLeft d (λ file. Tells fault (IsDamageOf name file)) → IsFoundBy fault found
+-- what a check found of a file
+found_verdict : (files : Files) (name : List ℕ) (fault : CheckFault) (found : Option FileFault)
+    → IsSomeAnd (files name) (λ file. Tells fault (IsDamageOf name file)) → IsFoundBy fault found
     → IsVerdict found files name
-found_verdict files name d (Damaged damage) found opened told is =
-    subst (λ (o : Option FileFault). IsVerdict o files name) (sym is)
-    (some_where (files name) d.left (λ (file : List ℕ). IsDamageOf name file damage) opened told)
-found_verdict files name d (Input fault) found opened told is = absurd is
-found_verdict files name d Memory found opened told is = absurd is
+found_verdict files name (Damaged damage) found told is =
+    subst (λ (o : Option FileFault). IsVerdict o files name) (sym is) told
+found_verdict files name (Input fault) found told is = absurd is
+found_verdict files name Memory found told is = absurd is
 
-result_verdict : {E : Type 0} (files : Files) (name : List ℕ) (d : InputState) (fault : CheckFault)
-    (r : Result (Option FileFault) E) → Opens files name d → OfLeft d (λ file. Tells fault (IsDamageOf name file))
-    → IfOk r (IsFoundBy fault) → IfOk r (λ found. IsVerdict found files name)
-result_verdict files name d fault (Ok found) opened told is = found_verdict files name d fault found opened told is
-result_verdict files name d fault (Err e) opened told is = tt
+result_verdict : {E : Type 0} (files : Files) (name : List ℕ) (fault : CheckFault) (r : Result (Option FileFault) E)
+    → IsSomeAnd (files name) (λ file. Tells fault (IsDamageOf name file)) → IfOk r (IsFoundBy fault)
+    → IfOk r (λ found. IsVerdict found files name)
+result_verdict files name fault (Ok found) told is = found_verdict files name fault found told is
+result_verdict files name fault (Err e) told is = tt
 
 segment_told : (name day file : List ℕ) (fault : CheckFault) → IsPeriodText day → IsSegment day name
     → Tells fault (IsDamagedSegment day name file) → Tells fault (IsDamageOf name file)
@@ -133,16 +139,23 @@ pub segment_verdict : {E : Type 0} (files : Files) (name day : List ℕ) (d : In
     → OfLeft d (λ file. Tells fault (IsDamagedSegment day name file)) → IfOk r (IsFoundBy fault)
     → IfOk r (λ found. IsVerdict found files name)
 segment_verdict files name day d fault r text segment opened told found =
-    result_verdict files name d fault r opened
-    (λ file left. segment_told name day file fault text segment (told file left)) found
+    result_verdict files name fault r
+    (some_where (files name) d.left (λ (file : List ℕ). Tells fault (IsDamageOf name file)) opened
+    (λ file left. segment_told name day file fault text segment (told file left))) found
 
-pub journal_verdict : {E : Type 0} (files : Files) (name : List ℕ) (d : InputState) (fault : CheckFault)
-    (r : Result (Option FileFault) E) → IsJournal name → Opens files name d
-    → OfLeft d (λ file. Tells fault (IsDamagedJournal file)) → IfOk r (IsFoundBy fault)
+some_then : (o : Option (List ℕ)) (P Q : List ℕ → Type 0) → ((file : List ℕ) → P file → Q file) → IsSomeAnd o P
+    → IsSomeAnd o Q
+some_then None P Q then some = absurd some
+some_then (Some file) P Q then some = then file some
+
+pub journal_verdict : {E : Type 0} (files : Files) (name : List ℕ) (read : JournalFile) (fault : CheckFault)
+    (r : Result (Option FileFault) E) → IsJournal name → IsSomeAnd (files name) (IsJournalFile read)
+    → ((file : List ℕ) → IsJournalFile read file → Tells fault (IsDamagedJournal file)) → IfOk r (IsFoundBy fault)
     → IfOk r (λ found. IsVerdict found files name)
-journal_verdict files name d fault r journal opened told found =
-    result_verdict files name d fault r opened
-    (λ file left. journal_told name file fault journal (told file left)) found
+journal_verdict files name read fault r journal given told found =
+    result_verdict files name fault r
+    (some_then (files name) (IsJournalFile read) (λ file. Tells fault (IsDamageOf name file))
+    (λ file is. journal_told name file fault journal (told file is)) given) found
 
 told_damaged : (o : Option (List ℕ)) (name : List ℕ) (damage : FileFault)
     → IsSomeAnd o (λ file. IsDamageOf name file damage) → IsSomeAnd o (λ file. ¬ (IsWholeFile name file))
@@ -204,10 +217,3 @@ pub names_more : (P : List ℕ → Type 0) (names : List (List ℕ)) (last : Lis
     → Contains (names ++ last ∷ []) name → P name
 names_more P names last before here name has =
     elim (Contains-push_cases names last name has) [ inl there ↦ before name there | inr is ↦ subst P is here ]
-
--- ---- what an input gave
-
-pub of_given : (left : Option (List ℕ)) (octets : List ℕ) (P : List ℕ → Type 0)
-    → IfSome left (λ (input : List ℕ). octets ≡ input) → P octets → (file : List ℕ) → left ≡ Some file → P file
-of_given None octets P given p file is = absurd (cc is)
-of_given (Some input) octets P given p file is = let same : input ≡ file = cc is in subst P (given ∙ same) p

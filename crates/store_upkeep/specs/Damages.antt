@@ -7,9 +7,11 @@ use Rattle.record_store.specs.Names.{IsJournal, IsSegment}
 use Rattle.store_reading.specs.Damages.{IsJournalDamage, IsSegmentDamage}
 use Rattle.store_reading.specs.Days.{IsPeriodText}
 use Rattle.store_reading.specs.Folders.{Opens}
+use Rattle.store_reading.specs.Journals.{IsJournalFile}
 use Rattle.store_reading.specs.declared.fault.CheckFault.{CheckFault}
 use Rattle.store_reading.specs.declared.fault.CheckFault.TheVariants.{Damaged, Input, Memory}
 use Rattle.store_reading.specs.declared.fault.FileFault.{FileFault}
+use Rattle.store_reading.specs.declared.journal_file.JournalFile.{JournalFile}
 use Rattle.store_upkeep.specs.Whole.{IsDamagedAt, IsWholeAt, IsWholeFile}
 use Rattle.store_upkeep.specs.declared.damage.DamagedFile.{DamagedFile}
 
@@ -38,6 +40,11 @@ IsFoundBy Memory found = ⊥
 abbrev pub OpensOrNone : {R : Type 0} → (R → InputState) → Option R → Files → List ℕ → Type 0
 OpensOrNone state None files name = IsNone (files name)
 OpensOrNone state (Some file) files name = Opens files name (state file)
+
+-- a journal was read, or there is none
+abbrev pub ReadsOrNone : Option JournalFile → Option (List ℕ) → Type 0
+ReadsOrNone None file = IsNone file
+ReadsOrNone (Some journal) file = IsSomeAnd file (IsJournalFile journal)
 
 -- each is damaged
 abbrev pub AreDamaged : Files → List DamagedFile → Type 0

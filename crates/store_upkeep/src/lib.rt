@@ -5,7 +5,6 @@
 mod compact_fault;
 mod compaction;
 mod damage;
-mod journal_check;
 mod segments;
 mod stream_disk;
 mod verification;

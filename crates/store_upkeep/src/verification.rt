@@ -5,15 +5,14 @@ ghost use Rattle.store_reading.specs.Causes.{IsCause, open_causes};
 ghost use Rattle.store_reading.specs.Days.{IsPeriodText};
 ghost use Rattle.store_upkeep.specs.Causes.{IsCounted, IsCountedFile, IsListedFile, check_causes};
 ghost use Rattle.store_upkeep.specs.Damages.{AddsTo, AreAsTold, AreDamaged, IsFoundBy, IsVerdict, IsWholeOrListed};
-ghost use Rattle.store_upkeep.specs.Damages.{OpensOrNone};
+ghost use Rattle.store_upkeep.specs.Damages.{OpensOrNone, ReadsOrNone};
 
 use crate::damage::DamagedFile;
-use crate::journal_check::check_journal;
 use disk::FileName;
 use std::alloc::Global;
 use store_reading::{
-    CheckFault, FileFault, Folder, Period, ReadFault, check_segment, is_journal, list, open_file,
-    segment_period,
+    CheckFault, FileFault, Folder, JournalFile, Period, ReadFault, check_journal, check_segment,
+    is_journal, list, open_file, read_journal, segment_period,
 };
 
 // how often a file is opened that is there and gone
@@ -43,6 +42,32 @@ fn open_listed<F: Folder>(
     'openings: for _ in 0..OPENINGS {
         match open_file(alloc, folder, name) {
             Ok(file) => return Ok(Some(file)),
+            Err(ReadFault::Gone) => {}
+            Err(fault) => return Err(fault),
+        }
+        let names = list(alloc, folder)?;
+        if !is_among(&names, name) {
+            return Ok(None);
+        }
+    }
+    Err(ReadFault::Gone)
+}
+
+// Reads a journal; none where it is gone: a checkpoint has put its records elsewhere.
+fn read_listed<F: Folder>(
+    alloc: Global,
+    folder: &mut F,
+    name: &FileName,
+) -> Result<Option<JournalFile>, ReadFault>
+    ensures read { F.tells folder.new → IfOk result (λ found.
+        ReadsOrNone found (F.files folder.old name.now)) }
+    ensures same { F.tells folder.new → F.files folder.new ≡ F.files folder.old }
+    ensures told { F.tells folder.new → F.tells folder.old }
+    ensures cause { IfErr result (IsCause (open_causes (F.has_failed folder.new) name.now)) }
+{
+    'openings: for _ in 0..OPENINGS {
+        match read_journal(alloc, folder, name) {
+            Ok(journal) => return Ok(Some(journal)),
             Err(ReadFault::Gone) => {}
             Err(fault) => return Err(fault),
         }
@@ -107,10 +132,10 @@ fn check_journal_file<F: Folder>(
     ensures told { F.tells folder.new → F.tells folder.old }
     ensures cause { IfErr result (IsCause (open_causes (F.has_failed folder.new) name.now)) }
 {
-    let Some(mut file) = open_listed(alloc, folder, name)? else {
+    let Some(journal) = read_listed(alloc, folder, name)? else {
         return Ok(None);
     };
-    match check_journal(alloc, &mut file) {
+    match check_journal(alloc, &journal) {
         Ok(()) => Ok(None),
         Err(fault) => found_by(alloc, name, fault),
     }
@@ -192,9 +217,9 @@ fn verify_files<F: Folder>(
 
 /// Reads the journals and the segments of a folder, in the order of their names, and adds those
 /// that are damaged to a list: a segment that is no archive of entries of its period, or whose
-/// SHA-256 is not the one in its name; a journal with a batch that is no sequence of entries. What
-/// follows the last batch of a journal that is open and whole is no damage, nor is a file that is
-/// gone when it is to be opened.
+/// SHA-256 is not the one in its name; a journal with a batch that is no sequence of entries or has
+/// another checksum, or behind whose batches others are hidden. What a crash leaves behind the last
+/// batch of a journal is no damage, nor is a file that is gone when it is to be opened.
 ///
 /// # Errors
 /// The first fault for which a file or the names could not be read, or lack of memory. The files

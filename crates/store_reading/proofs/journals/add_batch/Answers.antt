@@ -1,12 +1,12 @@
-use Rattle.std.proofs.Common.{◌<◌, arith, length, rules}
+use Rattle.std.proofs.Common.{◌≡◌, IsTrue, arith, false, rules}
 use Rattle.store_reading.specs.Sources.{set_entries}
 use Rattle.store_reading.specs.Damages.{IsDamagedBatch, Tells}
 use Rattle.store_reading.specs.declared.fault.CheckFault.{CheckFault}
-use Rattle.store_reading.proofs.Batched.{batch_begun, batch_more, batch_whole, no_octets}
+use Rattle.store_reading.proofs.Batched.{batch_begun, batch_more, batch_read, batch_whole, no_more}
 use Rattle.store_reading.proofs.Causing.{at_err}
-use Rattle.store_reading.proofs.Damaged.{batch_damaged}
+use Rattle.store_reading.proofs.Damaged.{batch_damaged, seal_result}
 use Rattle.store_reading.proofs.Parted.{shorter}
-use Rattle.store_reading.proofs.Whole.{batch_read}
+use Rattle.store_reading.proofs.Whole.{on_ok_more}
 use Rattle.store_reading.proofs.journals.add_batch.Goals as goal
 
 pub entries-init : goal.entries-init
@@ -24,21 +24,30 @@ entries-smaller c = let a = c.in_ok-rest.ensures.adds in shorter c.entries.rest.
 
 pub returns-clause-adds : goal.returns-clause-adds
 returns-clause-adds c =
-    batch_whole (set_entries c.args.set.now) (set_entries c.entries.set) c.args.body.now c.entries.rest.now
-    c.entries.invariant
-    (no_octets c.entries.rest.now (search rules))
+    let b = c.entries.invariant in
+    on_ok_more c.check_seal.result
+    (λ sealed. batch_whole (set_entries c.args.set.now) (set_entries c.entries.set) c.args.body.now c.entries.rest.now b
+    (sealed _ b.parts)) c.check_seal.ensures.sealed
 
 pub returns-clause-whole : goal.returns-clause-whole
 returns-clause-whole c =
-    batch_read (set_entries c.args.set.now) (set_entries c.entries.set) c.args.body.now c.entries.rest.now
-    c.entries.invariant
-    (no_octets c.entries.rest.now (search rules))
+    let b = c.entries.invariant in
+    on_ok_more c.check_seal.result
+    (λ sealed. batch_read (set_entries c.args.set.now) (set_entries c.entries.set) c.args.body.now c.entries.rest.now b
+    (sealed _ b.parts)) c.check_seal.ensures.sealed
+
+pub returns-clause-damaged : goal.returns-clause-damaged
+returns-clause-damaged c =
+    let off : c.has_entry.result ≡ false = search rules in
+    seal_result (set_entries c.args.set.now) (set_entries c.entries.set) c.args.body.now c.entries.rest.now c.args.offset
+    c.entries.invariant c.check_seal.result
+    (no_more c.has_entry.result c.entries.rest.now c.has_entry.ensures off) c.check_seal.ensures.damaged
 
 pub returns-in_err-rest-clause-damaged : goal.returns-in_err-rest-clause-damaged
 returns-in_err-rest-clause-damaged c =
-    let some : 0 < length c.entries.rest.now = search rules in
+    let on : IsTrue c.has_entry.result = search rules in
     let fault = c.in_err-rest.field-0.0 in
     at_err c.from_residual.result fault (λ (f : CheckFault). Tells f (IsDamagedBatch c.args.body.now c.args.offset))
     c.from_residual.ensures.1
     (batch_damaged (set_entries c.args.set.now) (set_entries c.entries.set) c.args.body.now c.entries.rest.now
-    c.args.offset _ fault c.entries.invariant some (omega arith) c.in_err-rest.ensures.damaged)
+    c.args.offset c.entries.invariant _ fault (c.has_entry.ensures.0 on) (omega arith) c.in_err-rest.ensures.damaged)

@@ -27,8 +27,8 @@ returns-clause-adds c =
     journal_whole (set_entries c.args.set.now) (set_entries c.batches.set) c.args.file.now c.batches.rest.now
     c.batches.invariant c.in_default.ensures.none
 
-pub returns-clause-whole : goal.returns-clause-whole
-returns-clause-whole c =
+pub returns-clause-readable : goal.returns-clause-readable
+returns-clause-readable c =
     journal_read (set_entries c.args.set.now) (set_entries c.batches.set) c.args.file.now c.batches.rest.now
     c.batches.invariant c.in_default.ensures.none
 

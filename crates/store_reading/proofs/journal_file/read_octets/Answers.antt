@@ -1,7 +1,7 @@
 use Rattle.std.proofs.Common.{rules}
-use Rattle.store_reading.specs.declared.journals.TheConstants.{JOURNAL_MAX}
+use Rattle.store_reading.specs.declared.journal_file.TheConstants.{JOURNAL_MAX}
 use Rattle.store_reading.proofs.Batched.{all_given}
-use Rattle.store_reading.proofs.journals.read_octets.Goals as goal
+use Rattle.store_reading.proofs.journal_file.read_octets.Goals as goal
 
 pub returns-then-len-lt-JOURNAL_MAX-clause-given : goal.returns-then-len-lt-JOURNAL_MAX-clause-given
 returns-then-len-lt-JOURNAL_MAX-clause-given g c =
