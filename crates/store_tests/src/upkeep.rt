@@ -119,7 +119,7 @@ fn stored(alloc: Global, segments: u8) -> Result<MemoryDisk, Fail> {
     put(alloc, &mut disk, b"refused", b"x")?;
     let mut batches = b"\x01\x16\0\0\0".to_vec(alloc)?;
     batches.extend_from_slice(UNDATED)?;
-    batches.extend_from_slice(b"\x01\0\0\0\0\x01\x09\0\0\0x")?;
+    batches.extend_from_slice(b"\x01\0\0\0\0\xfe\x09\0\0\0x")?;
     put(alloc, &mut disk, b"journal.7", &batches)?;
     disk.sync_names()?;
     Ok(disk)
