@@ -24,6 +24,7 @@ from pathlib import Path
 
 from lib.loopback import HERE
 from lib.program import Program
+from lib.quiet import bound
 from lib.reference import counted, counted_frames
 from lib.results import Results
 from lib.server import Runs, any_port, reset, until, until_closed
@@ -40,7 +41,8 @@ PACE = 0.001  # seconds from one datagram to the next
 SELDOM = 0.01  # seconds from one record of the connection to the next
 LOOK = 0.001  # seconds from one look at the journal to the next
 PERIOD = 0.05  # seconds of a commit
-LATE = 0.1  # seconds more
+LATE = bound(0.1, 1.0)  # seconds more
+LATE_BESIDE_MANY = bound(0.1, 2.5)  # beside more than 32 connections
 NEVER = 3.0  # seconds after which a record that is not committed is lost
 HALF = b"200000 " + b"<14>1 - - - - - - " + b"a" * 90_000
 ROOM = 262_144
@@ -255,7 +257,8 @@ def in_order(waits):
 def beside(runs, kind, count):
     name = f"{count} of {kind}"
     for what, waits in waits_beside(runs, kind, count, SECONDS).items():
-        late = [n for n, one in enumerate(waits) if one is None or one > PERIOD + LATE]
+        most = PERIOD + (LATE if count <= 32 else LATE_BESIDE_MANY)
+        late = [n for n, one in enumerate(waits) if one is None or one > most]
         lost = waits.count(None)
         longest = in_order(waits)[-1:]
         runs.results.check(f"{name}: each {what.decode()} is committed in time", not late,
