@@ -1,13 +1,14 @@
 """Octets of journals that are changed: `verify`, `read` and a start of `serve` tell each that costs a record, and where."""
 import tempfile
 
-from lib.reference import archive_text, counted, counted_frames
+from lib.reference import COUNT, COUNT_PREFIX, ENTRY_MAX, archive_text, canonical, counted, entry_fault
 from lib.server import SOON, Runs, any_port
-from lib.store_format import CLOSED, HEAD, JOURNAL, OLDER_CLOSED, OPEN, SEAL, bodies_of, files_of, hides_batches, of_batch
-from lib.store_format import of_journal, open_batch
+from lib.store_format import CLOSED, HEAD, JOURNAL, OLDER_CLOSED, OPEN, SEAL, bodies_of, files_of, hides_batches, of_journal
+from lib.store_format import open_batch, seal_of
 
 SENT = [b"<13>1 - h journal - - - first", b"<14>1 2026-11-25T10:00:00.000000Z h journal - - - second",
         b"<15>1 - h journal - - - the third and last"]
+SEAL_MARK = b"#"
 # of the flips of one bit of a journal without seals: how many are told, change nothing, and cost or change a record unseen
 OLDER = {"told": 692, "same": 8, "unseen": 516}
 
@@ -24,17 +25,33 @@ def served(runs):
     return server.store, server.store / names[0].decode()
 
 
+def fault_of_batch(body, at):
+    """What is wrong with a batch that begins at a place of its journal: an entry, or the seal behind them; None if nothing is."""
+    read = 0
+    while read < len(body) and body[read:read + 1] != SEAL_MARK:
+        seen = COUNT.match(body, read)
+        if not seen:
+            return f"bad-frame {at + COUNT_PREFIX.match(body, read).end()}"
+        end = seen.end() + int(seen.group(1))
+        if end - seen.end() > ENTRY_MAX:
+            return f"entry-too-long {at + read}"
+        fault = entry_fault(body[seen.end():end], canonical) if end <= len(body) else f"bad-frame {at + len(body)}"
+        if fault:
+            return fault.format(at=at + read)
+        read = end
+    return None if body[read:] in (b"", seal_of(body[:read])) else f"checksum {at + read}"
+
+
 def place_of(octets):
-    """Where the fault of a damaged journal is: a checksum, hidden batches, or an entry of a batch."""
+    """What is wrong with a damaged journal and where: hidden batches, an entry, or a checksum."""
     bodies, end = bodies_of(octets)
     if hides_batches(octets[end:]):
         return f"hidden {end}"
     at = 0
     for body in bodies:
-        frames, _ = counted_frames(body)
-        text = counted([frame for frame in frames if frame is not None])
-        if of_batch(body) is None:
-            return f"checksum {at + HEAD + len(text)}" if body[len(text):len(text) + 1] == b"#" else ""
+        fault = fault_of_batch(body, at + HEAD)
+        if fault:
+            return fault
         at += HEAD + len(body)
     return None
 
