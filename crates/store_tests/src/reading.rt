@@ -271,14 +271,14 @@ fn files_that_a_listing_misses_are_read(rt: HostRuntime) -> Result<(), Fail> {
 fn a_damaged_segment_is_told(rt: HostRuntime) -> Result<(), Fail> {
     let alloc = rt.alloc();
     let name = FileName::new(alloc, ALSO)?.ok_or("no name")?;
-    let mut same = 0;
+    let mut same = 0_u32;
     for at in 0..96 {
         let mut disk = stored(alloc)?;
         disk.overwrite(&name, at, b'9')?;
         let (answer, text) = written(alloc, &mut make_view(disk), ALL)?;
         match &answer {
             Ok(()) => {
-                same += 1;
+                same = u32::saturating_add(same, 1);
                 assert!(rt; text == joined(alloc, &[A, B, C, D])?, "{at}");
             }
             Err(ReadFault::Damaged { name, fault: _ }) => {
@@ -318,17 +318,19 @@ fn sealed(alloc: Global) -> Result<Vec<u8>, Fail> {
 fn each_bit_of_a_journal_counts(rt: HostRuntime) -> Result<(), Fail> {
     let alloc = rt.alloc();
     let all = joined(alloc, &[A, D])?;
-    let mut same = 0;
+    let mut same = 0_u32;
     for at in 0..sealed(alloc)?.len() {
-        for bit in 0..8 {
+        for bit in [1_u8, 2, 4, 8, 16, 32, 64, 128] {
             let mut octets = sealed(alloc)?;
-            octets[at] ^= 1 << bit;
+            if at < octets.len() {
+                octets[at] ^= bit;
+            }
             let mut disk = MemoryDisk::new(alloc);
             put(alloc, &mut disk, b"journal.1", &[&octets])?;
             let (answer, text) = written(alloc, &mut make_view(disk), ALL)?;
             match &answer {
                 Ok(()) => {
-                    same += 1;
+                    same = u32::saturating_add(same, 1);
                     assert!(rt; text == all, "{at} {bit}");
                 }
                 Err(
@@ -373,11 +375,15 @@ fn damage_of_a_journal_is_told_where_it_is(rt: HostRuntime) -> Result<(), Fail> 
     ];
     for (at, right) in rows {
         let mut octets = sealed(alloc)?;
-        octets[at] ^= 64;
+        if at < octets.len() {
+            octets[at] ^= 64;
+        }
         assert!(rt; told(alloc, &octets)? == Some(right), "{at}");
     }
     let mut closed = sealed(alloc)?;
-    closed[0] = 254;
+    if !closed.is_empty() {
+        closed[0] = 254;
+    }
     assert!(rt; told(alloc, &closed)? == Some(JournalDamage::Hidden { at: 0 }));
     Ok(())
 }
@@ -387,7 +393,9 @@ fn damage_of_a_journal_is_told_where_it_is(rt: HostRuntime) -> Result<(), Fail> 
 fn a_batch_that_is_opened_meanwhile_is_no_damage(rt: HostRuntime) -> Result<(), Fail> {
     let alloc = rt.alloc();
     let mut early = sealed(alloc)?;
-    early[0] = 254;
+    if !early.is_empty() {
+        early[0] = 254;
+    }
     let mut disk = MemoryDisk::new(alloc);
     put(alloc, &mut disk, b"journal.1", &[&sealed(alloc)?])?;
     let mut view = make_view(disk);
