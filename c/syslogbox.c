@@ -8,6 +8,8 @@
 int syslogbox_proved_check(const uint8_t *, size_t, struct syslogbox_fault *);
 int64_t syslogbox_proved_canonical(const uint8_t *, size_t, uint8_t *, size_t, struct syslogbox_fault *);
 int syslogbox_proved_view(const uint8_t *, size_t, struct syslogbox_parts *, struct syslogbox_fault *);
+int64_t syslogbox_proved_spans(const uint8_t *, size_t, struct syslogbox_part_span *, size_t,
+                               struct syslogbox_fault *);
 int syslogbox_proved_element(const uint8_t *, size_t, size_t, struct syslogbox_element *, struct syslogbox_fault *);
 int syslogbox_proved_param(const uint8_t *, size_t, size_t, size_t, struct syslogbox_param *,
                            struct syslogbox_fault *);
@@ -19,6 +21,7 @@ int64_t syslogbox_proved_union(const uint8_t *, size_t, const uint8_t *, size_t,
 int64_t syslogbox_proved_legacy(int, int, const uint8_t *, size_t, uint8_t *, size_t, struct syslogbox_fault *);
 
 static uint8_t nothing[1];
+static struct syslogbox_part_span no_span;
 
 static const uint8_t *octets(const uint8_t *at, size_t len)
 {
@@ -52,6 +55,13 @@ int syslogbox_view(const uint8_t *record, size_t len, struct syslogbox_parts *pa
 {
     UNREAD(fault);
     return syslogbox_proved_view(octets(record, len), len, parts, fault);
+}
+
+int64_t syslogbox_spans(const uint8_t *record, size_t len, struct syslogbox_part_span *spans, size_t room,
+                        struct syslogbox_fault *fault)
+{
+    UNREAD(fault);
+    return syslogbox_proved_spans(octets(record, len), len, room ? spans : &no_span, room, fault);
 }
 
 int syslogbox_element(const uint8_t *record, size_t len, size_t n, struct syslogbox_element *element,

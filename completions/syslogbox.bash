@@ -16,11 +16,12 @@ _syslogbox_options() {
         archive)
             echo "--framing --trim --legacy --zone --dialect --spill --memory --help"
             ;;
-        merge | migrate | union | common | minus | diff | verify | compact)
+        merge | migrate | union | common | minus | diff | root | verify | compact)
             echo "--help"
             ;;
         select)
-            echo "--from --to --undated --only-undated --severity --facility --host --app --proc --msgid --id --help"
+            echo "--from --to --undated --only-undated --severity --facility --host --app --proc --msgid --id"
+            echo "--message --host-like --app-like --not-host --not-app --not-message --help"
             ;;
         digest)
             echo "--by --help"
@@ -50,10 +51,11 @@ _syslogbox_value() {
         "show --legacy" | "show --zone" | "check --legacy" | "check --zone" | "convert --legacy" | \
         "convert --zone" | "archive --legacy" | "archive --zone" | "archive --memory" | "select --from" | \
         "select --to" | "select --host" | "select --app" | "select --proc" | "select --msgid" | "select --id" | \
-        "read --from" | "read --to" | "send --host" | "send --app" | "send --proc" | "send --msgid" | \
-        "send --micros" | "collect --legacy" | "collect --zone" | "serve --udp" | "serve --counted" | "serve --lf" | \
-        "serve --connections" | "serve --per-peer" | "serve --idle" | "serve --commit" | "serve --checkpoint" | \
-        "serve --legacy" | "serve --zone")
+        "select --message" | "select --host-like" | "select --app-like" | "select --not-host" | "select --not-app" | \
+        "select --not-message" | "read --from" | "read --to" | "send --host" | "send --app" | "send --proc" | \
+        "send --msgid" | "send --micros" | "collect --legacy" | "collect --zone" | "serve --udp" | \
+        "serve --counted" | "serve --lf" | "serve --connections" | "serve --per-peer" | "serve --idle" | \
+        "serve --commit" | "serve --checkpoint" | "serve --legacy" | "serve --zone")
             echo "text"
             ;;
         "show --dialect" | "check --dialect" | "convert --dialect" | "archive --dialect" | "collect --dialect" | \
@@ -102,7 +104,7 @@ _syslogbox_place() {
 
 _syslogbox() {
     local command=${COMP_WORDS[1]} word=$2 previous=$3 kind="" action="" words=""
-    local commands="show check convert archive merge migrate union common minus diff select digest read verify compact send collect serve help"
+    local commands="show check convert archive merge migrate union common minus diff select digest root read verify compact send collect serve help"
     if [ "$COMP_CWORD" -eq 1 ]; then
         words="$commands --help --version"
     elif [ "$command" = help ]; then

@@ -10,6 +10,7 @@ import "C"
 
 import (
 	"bufio"
+	"bytes"
 	"fmt"
 	"io"
 	"math"
@@ -208,32 +209,63 @@ func cut(record []byte, s C.struct_syslogbox_span) []byte {
 	return record[s.offset : s.offset+s.len]
 }
 
-func element(record []byte, n int) (Element, error) {
-	var shown C.struct_syslogbox_element
-	var param C.struct_syslogbox_param
-	var fault C.struct_syslogbox_fault
-	if C.syslogbox_element(octets(record), C.size_t(len(record)), C.size_t(n), &shown, &fault) == 0 {
-		return Element{}, faultOf(&fault)
-	}
-	e := Element{ID: string(cut(record, shown.id))}
-	for m := 0; m < int(shown.params); m++ {
-		if C.syslogbox_param(octets(record), C.size_t(len(record)), C.size_t(n), C.size_t(m), &param, &fault) == 0 {
-			return Element{}, faultOf(&fault)
+// spans gives all parts of a record, in the order of its octets.
+func spans(record []byte) ([]C.struct_syslogbox_part_span, error) {
+	// eight and three for each element of one parameter, which is room for most records
+	shown := make([]C.struct_syslogbox_part_span, 32)
+	for {
+		var fault C.struct_syslogbox_fault
+		n := C.syslogbox_spans(octets(record), C.size_t(len(record)), &shown[0], C.size_t(len(shown)), &fault)
+		switch {
+		case n < 0:
+			return nil, faultOf(&fault)
+		case int(n) <= len(shown):
+			return shown[:n], nil
 		}
-		raw := cut(record, param.value)
-		value, err := text(len(raw), func(out *C.uint8_t, room C.size_t, fault *C.struct_syslogbox_fault) C.int64_t {
-			return C.syslogbox_value(octets(raw), C.size_t(len(raw)), out, room, fault)
-		})
-		if err != nil {
-			return Element{}, err
-		}
-		e.Params = append(e.Params, Param{string(cut(record, param.name)), string(value)})
+		shown = make([]C.struct_syslogbox_part_span, n)
 	}
-	return e, nil
 }
 
-// View returns the parts of the record, its elements in the order of the octets. It reads the record once more for each
-// element and each parameter, so its time grows with the square of their number.
+// meaning gives the text that the spelling of a value means.
+func meaning(raw []byte) (string, error) {
+	if bytes.IndexByte(raw, '\\') < 0 {
+		return string(raw), nil
+	}
+	value, err := text(len(raw), func(out *C.uint8_t, room C.size_t, fault *C.struct_syslogbox_fault) C.int64_t {
+		return C.syslogbox_value(octets(raw), C.size_t(len(raw)), out, room, fault)
+	})
+	return string(value), err
+}
+
+// elements gives the elements of the record, in the order of its octets.
+func elements(record []byte) ([]Element, error) {
+	shown, err := spans(record)
+	if err != nil {
+		return nil, err
+	}
+	var all []Element
+	name := ""
+	for _, part := range shown {
+		octets := cut(record, part.span)
+		switch part.part {
+		case C.SYSLOGBOX_PART_ELEMENT_ID:
+			all = append(all, Element{ID: string(octets)})
+		case C.SYSLOGBOX_PART_PARAM_NAME:
+			name = string(octets)
+		case C.SYSLOGBOX_PART_PARAM_VALUE:
+			value, err := meaning(octets)
+			if err != nil {
+				return nil, err
+			}
+			last := &all[len(all)-1]
+			last.Params = append(last.Params, Param{name, value})
+		}
+	}
+	return all, nil
+}
+
+// View returns the parts of the record, its elements in the order of the octets. Its time grows with the length of the
+// record.
 func View(record []byte) (*Record, error) {
 	var p C.struct_syslogbox_parts
 	var fault C.struct_syslogbox_fault
@@ -246,12 +278,11 @@ func View(record []byte) (*Record, error) {
 		ProcID: string(cut(record, p.proc_id)), MsgID: string(cut(record, p.msg_id)),
 		BOM: p.has_bom == 1, Message: cut(record, p.message),
 	}
-	for n := 0; n < int(p.elements); n++ {
-		e, err := element(record, n)
-		if err != nil {
+	if p.elements > 0 {
+		var err error
+		if r.Elements, err = elements(record); err != nil {
 			return nil, err
 		}
-		r.Elements = append(r.Elements, e)
 	}
 	return r, nil
 }

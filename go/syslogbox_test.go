@@ -27,6 +27,39 @@ func TestRecord(t *testing.T) {
 	}
 }
 
+// A record with many elements and parameters, each in its place.
+func TestManyParams(t *testing.T) {
+	r, err := View([]byte("<0>1 - - - - - [a]" + "[id" + strings.Repeat(` k="\"" l=""`, 6_000) + "][z x=\"y\"]"))
+	if err != nil {
+		t.Fatal(err)
+	}
+	if len(r.Elements) != 3 || r.Elements[0].Params != nil || r.Elements[2].Params[0] != (Param{"x", "y"}) {
+		t.Fatalf("%.200v", r.Elements)
+	}
+	params := r.Elements[1].Params
+	if len(params) != 12_000 || params[11_998] != (Param{"k", `"`}) || params[11_999] != (Param{"l", ""}) {
+		t.Fatalf("%d %.200v", len(params), params)
+	}
+}
+
+func BenchmarkManyParams(b *testing.B) {
+	record := []byte("<0>1 - - - - - [id" + strings.Repeat(` k="v"`, 12_000) + "] m")
+	for i := 0; i < b.N; i++ {
+		if _, err := View(record); err != nil {
+			b.Fatal(err)
+		}
+	}
+}
+
+func BenchmarkView(b *testing.B) {
+	record := []byte(`<34>1 2003-10-11T22:14:15.003Z h su - ID47 [a@1 k="v"] text`)
+	for i := 0; i < b.N; i++ {
+		if _, err := View(record); err != nil {
+			b.Fatal(err)
+		}
+	}
+}
+
 func TestRefusal(t *testing.T) {
 	for _, record := range [][]byte{nil, {}, []byte("<0>1")} {
 		fault, refused := Check(record).(*Fault)

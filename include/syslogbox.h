@@ -8,10 +8,10 @@
  * - `len` octets can be read at its pointer, and `room` octets written at `out`. They do not overlap, nor with the
  *   structs. A pointer may be null if its length is 0. Lengths are below 2^63.
  * - `fault` may be null if the caller needs no reason. It is written if the call fails, and left alone otherwise. A call
- *   that fails leaves `out`, `parts`, `element` and `param` as they were.
+ *   that fails leaves `out`, `spans`, `parts`, `element` and `param` as they were.
  * - Offsets and lengths count octets, from 0 on.
- * - syslogbox_check, _view, _element, _param, _frame and _pass take no memory. The others call malloc, and fail with
- *   SYSLOGBOX_NO_MEMORY if it fails.
+ * - syslogbox_check, _view, _spans, _element, _param, _frame and _pass take no memory. The others call malloc, and fail
+ *   with SYSLOGBOX_NO_MEMORY if it fails.
  * - No record of more than SYSLOGBOX_ENTRY_MAX octets is read: calls fail with SYSLOGBOX_RECORD_TOO_LONG.
  * - On the stack a record of up to 2,000 octets took less than 32 KiB, and any other at most 1 MiB: most of it if there
  *   are thousands of elements. A thread with less room may overflow.
@@ -108,6 +108,27 @@ struct syslogbox_param {
     struct syslogbox_span value; /* as it is spelled between the quotation marks: syslogbox_value gives its meaning */
 };
 
+/* Which part of a record a span is. */
+enum syslogbox_part {
+    SYSLOGBOX_PART_PRIORITY = 1,     /* the number between the angle brackets (RFC 5424, 6.2.1) */
+    SYSLOGBOX_PART_VERSION = 2,      /* 6.2.2 */
+    SYSLOGBOX_PART_TIMESTAMP = 3,    /* 6.2.3; "-" if the record has no time */
+    SYSLOGBOX_PART_HOSTNAME = 4,     /* 6.2.4; "-" if the record has none, as in the next three */
+    SYSLOGBOX_PART_APP_NAME = 5,     /* 6.2.5 */
+    SYSLOGBOX_PART_PROC_ID = 6,      /* 6.2.6 */
+    SYSLOGBOX_PART_MSG_ID = 7,       /* 6.2.7 */
+    SYSLOGBOX_PART_ELEMENT_ID = 8,   /* the id of an element (6.3.2) */
+    SYSLOGBOX_PART_PARAM_NAME = 9,   /* the name of a parameter of that element (6.3.3); its value comes next */
+    SYSLOGBOX_PART_PARAM_VALUE = 10, /* between the quotation marks, as spelled: syslogbox_value gives its meaning */
+    SYSLOGBOX_PART_MESSAGE = 11      /* without the BOM (6.4); it may be empty */
+};
+
+/* A part of a record, and where it lies. */
+struct syslogbox_part_span {
+    uint32_t part; /* a number of enum syslogbox_part */
+    struct syslogbox_span span;
+};
+
 /* How records are framed on a stream (RFC 6587). */
 enum syslogbox_framing {
     SYSLOGBOX_COUNTED = 1, /* octet counting (3.4.1): the length in decimal, a space, the record */
@@ -132,8 +153,17 @@ int64_t syslogbox_canonical(const uint8_t *record, size_t len, uint8_t *out, siz
 int syslogbox_view(const uint8_t *record, size_t len, struct syslogbox_parts *parts, struct syslogbox_fault *fault);
 
 /*
+ * All parts of the record in the order of its octets: the seven fields before the structured data, each as it is
+ * spelled; of each element its id, and the name and the value of each parameter; then the message. Returns how many
+ * they are, eight at least, and fills `spans` with the first `room` of them; if there are more, call again with room
+ * for all. Or -1, with the fault of syslogbox_check. The time grows with the length of the record.
+ */
+int64_t syslogbox_spans(const uint8_t *record, size_t len, struct syslogbox_part_span *spans, size_t room,
+                        struct syslogbox_fault *fault);
+
+/*
  * Element number n of the record, from 0 on in the order of its octets: 1; or 0, with the fault (those of
- * syslogbox_check, NO_ELEMENT). The record is read anew by each call.
+ * syslogbox_check, NO_ELEMENT). The record is read anew by each call; syslogbox_spans reads it once for all elements.
  */
 int syslogbox_element(const uint8_t *record, size_t len, size_t n, struct syslogbox_element *element,
                       struct syslogbox_fault *fault);

@@ -22,6 +22,7 @@ import logging
 import os
 import re
 import socket
+import struct
 import time as clock
 from dataclasses import dataclass, field
 from datetime import datetime, timedelta, timezone
@@ -31,7 +32,7 @@ from typing import Any, BinaryIO, Callable, Dict, Iterable, Iterator, List, Mapp
 __all__ = ["ENTRY_MAX", "FRAME_MAX", "ArchiveError", "Element", "Field", "Formatter", "Framing", "Handler", "Kind", "PacketError",
            "Record", "RecordError", "StreamError", "SyslogError", "canonical", "check", "check_all", "check_stream", "framed",
            "frames", "is_record", "legacy", "union", "view"]
-__version__ = "0.3.0"
+__version__ = "0.4.0"
 
 #: The most octets of a record in a frame that the program reads.
 FRAME_MAX = 262_144
@@ -151,12 +152,12 @@ class _Parts(ctypes.Structure):
                 ("elements", ctypes.c_size_t), ("message", _Span)]
 
 
-class _Element(ctypes.Structure):
-    _fields_ = [("id", _Span), ("params", ctypes.c_size_t)]
+#: struct syslogbox_part_span: the part, the offset and the length
+_PART_SPAN = struct.Struct("@INN")
 
 
-class _Param(ctypes.Structure):
-    _fields_ = [("name", _Span), ("value", _Span)]
+#: numbers of enum syslogbox_part, and how many fields come before the structured data
+_ELEMENT_ID, _PARAM_NAME, _FIELDS = 8, 9, 7
 
 
 _NAME = "libsyslogbox.so.0"
@@ -187,8 +188,7 @@ _check_short = _call("check", ctypes.c_int, _OCTETS)
 _SHORT = 2 ** 31
 _canonical = _call("canonical", ctypes.c_int64, _OCTETS, _SIZE, _POINTER, _SIZE, _POINTER)
 _view = _call("view", ctypes.c_int, _OCTETS, _SIZE, _POINTER, _POINTER)
-_element = _call("element", ctypes.c_int, _OCTETS, _SIZE, _SIZE, _POINTER, _POINTER)
-_param = _call("param", ctypes.c_int, _OCTETS, _SIZE, _SIZE, _SIZE, _POINTER, _POINTER)
+_spans = _call("spans", ctypes.c_int64, _OCTETS, _SIZE, _POINTER, _SIZE, _POINTER)
 _value = _call("value", ctypes.c_int64, _OCTETS, _SIZE, _POINTER, _SIZE, _POINTER)
 _frame = _call("frame", ctypes.c_int64, ctypes.c_int, _POINTER, _SIZE, _POINTER, _POINTER)
 _pass = _call("pass", ctypes.c_int64, ctypes.c_int, _POINTER, _SIZE, _POINTER, library=_releasing)
@@ -321,23 +321,39 @@ def _meaning(raw: bytes) -> str:
     return (_text(RecordError, _value, len(raw), raw, len(raw)) if b"\\" in raw else raw).decode("utf-8")
 
 
-def _element_at(record: bytes, n: int) -> Element:
-    shown, param, fault = _Element(), _Param(), _Fault()
-    if not _element(record, len(record), n, ctypes.byref(shown), ctypes.byref(fault)):
-        _raise(RecordError, fault)
-    params = []
-    for m in range(shown.params):
-        if not _param(record, len(record), n, m, ctypes.byref(param), ctypes.byref(fault)):
+def _shown(record: bytes) -> Iterator[Tuple[int, int, int]]:
+    """Each part of the structured data, its offset and its length, in the order of the octets."""
+    room = 24
+    while True:
+        out, fault = bytearray(room * _PART_SPAN.size), _Fault()
+        count = _spans(record, len(record), ctypes.byref(ctypes.c_char.from_buffer(out)), room, ctypes.byref(fault))
+        if count < 0:
             _raise(RecordError, fault)
-        params.append((_cut(record, param.name).decode("ascii"), _meaning(_cut(record, param.value))))
-    return Element(_cut(record, shown.id).decode("ascii"), tuple(params))
+        if count <= room:
+            return _PART_SPAN.iter_unpack(memoryview(out)[_FIELDS * _PART_SPAN.size:(count - 1) * _PART_SPAN.size])
+        room = count
+
+
+def _elements(record: bytes) -> Tuple[Element, ...]:
+    elements: List[Tuple[str, List[Tuple[str, str]]]] = []
+    params: List[Tuple[str, str]] = []
+    name = ""
+    for part, offset, size in _shown(record):
+        octets = record[offset:offset + size]
+        if part == _PARAM_NAME:
+            name = octets.decode("ascii")
+        elif part == _ELEMENT_ID:
+            params = []
+            elements.append((octets.decode("ascii"), params))
+        else:
+            params.append((name, _meaning(octets)))
+    return tuple(Element(name, tuple(params)) for name, params in elements)
 
 
 def view(record: bytes) -> Record:
     """The parts of the record, its elements in the order of the octets. Raises RecordError.
 
-    The record is read once more for each element and each parameter, so the time grows with the square of their number:
-    12,000 parameters take some seconds. `check` and `canonical` read it once.
+    The time grows with the length of the record.
     """
     parts, fault = _Parts(), _Fault()
     try:
@@ -350,7 +366,7 @@ def view(record: bytes) -> Record:
         facility=parts.facility, severity=parts.severity, micros=parts.time if parts.has_time else None,
         hostname=_word(record, parts.hostname), app_name=_word(record, parts.app_name),
         proc_id=_word(record, parts.proc_id), msg_id=_word(record, parts.msg_id),
-        elements=tuple(_element_at(record, n) for n in range(parts.elements)),
+        elements=_elements(record) if parts.elements else (),
         message=_cut(record, parts.message), bom=bool(parts.has_bom))
 
 

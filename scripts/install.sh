@@ -14,9 +14,10 @@ install -D -m 644 completions/syslogbox.bash "$to/share/bash-completion/completi
 install -D -m 644 completions/_syslogbox "$to/share/zsh/$zsh/_syslogbox"
 install -D -m 644 completions/syslogbox.fish "$to/share/fish/vendor_completions.d/syslogbox.fish"
 # systemd splits a line at spaces, and reads quotes, %, $ and \ as its own; then come the signs of sed
-called=$(printf '%s\n' "$prefix/bin/syslogbox" |
+called=$(printf '%s\n' "$prefix" |
     sed 's/\\/\\x5c/g; s/ /\\x20/g; s/'"'"'/\\x27/g; s/"/\\x22/g; s/%/%%/g; s/\$/$$/g' | sed 's/[\\&|]/\\&/g')
+install -D -m 755 contrib/until-stopped "$to/lib/syslogbox/until-stopped"
 for unit in contrib/*.service contrib/*.socket contrib/*.timer; do
     [ -f "$unit" ] || continue
-    sed "s|/usr/bin/syslogbox|$called|" "$unit" | install -D -m 644 /dev/stdin "$to/lib/systemd/system/${unit##*/}"
+    sed "s|/usr/bin/syslogbox|$called/bin/syslogbox|; s|/usr/lib/syslogbox/|$called/lib/syslogbox/|" "$unit" | install -D -m 644 /dev/stdin "$to/lib/systemd/system/${unit##*/}"
 done

@@ -63,7 +63,7 @@ def spread(word):
 def read():
     """The commands in the order of the help: name, what it does, options."""
     text = TABLE.read_text()
-    facilities = re.search(r'Kind::Facility => \{?\s*"(.*?)"', TYPES.read_text(), re.DOTALL)[1]
+    facilities = re.search(r'Kind::Facility => String::from_str\(\s*alloc,\s*"(.*?)"', TYPES.read_text(), re.DOTALL)[1]
     facilities = re.sub(r"\\\n\s*", "", facilities)
     rows = {name: Option(dict(FIELD.findall(body + "\n")), facilities) for name, body in ROW.findall(text)}
     commands = []

@@ -213,6 +213,86 @@ static void element(struct octets record, size_t n)
     EXPECT(is_fault(fault, SYSLOGBOX_NO_PARAM, 0, shown.params));
 }
 
+/* A record's spans, right before memory that may not be touched. */
+struct shown {
+    struct octets octets;
+    struct syslogbox_part_span *at;
+};
+
+static struct shown spans_of_length(size_t count)
+{
+    struct octets octets = of_length(count * sizeof(struct syslogbox_part_span));
+    return (struct shown){octets, (struct syslogbox_part_span *)(void *)octets.at};
+}
+
+static int is_span(struct syslogbox_part_span seen, uint32_t part, struct syslogbox_span right)
+{
+    return seen.part == part && seen.span.offset == right.offset && seen.span.len == right.len;
+}
+
+/* A field as syslogbox_view shows it, which has no octets where it is "-". */
+static int is_word(struct octets record, struct syslogbox_part_span seen, uint32_t part, struct syslogbox_span right)
+{
+    if (right.len)
+        return is_span(seen, part, right);
+    return seen.part == part && seen.span.len == 1 && within(record, seen.span) && record.at[seen.span.offset] == '-';
+}
+
+/* The spans from the eighth on are those of each element and parameter by its number, and then the message. */
+static void data_spans(struct octets record, struct syslogbox_parts p, const struct syslogbox_part_span *spans,
+                       size_t count)
+{
+    size_t i = 7;
+
+    for (size_t n = 0; n < p.elements; n++) {
+        struct syslogbox_element e;
+        EXPECT(syslogbox_element(record.at, record.len, n, &e, NULL) == 1);
+        EXPECT(i < count && is_span(spans[i++], SYSLOGBOX_PART_ELEMENT_ID, e.id));
+        for (size_t m = 0; m < e.params; m++) {
+            struct syslogbox_param q;
+            EXPECT(syslogbox_param(record.at, record.len, n, m, &q, NULL) == 1);
+            EXPECT(i + 1 < count && is_span(spans[i++], SYSLOGBOX_PART_PARAM_NAME, q.name));
+            EXPECT(is_span(spans[i++], SYSLOGBOX_PART_PARAM_VALUE, q.value));
+        }
+    }
+    EXPECT(i + 1 == count && is_span(spans[i], SYSLOGBOX_PART_MESSAGE, p.message));
+}
+
+/* The spans are those that the other calls show; a room that is too small has the first of them. */
+static void spans(struct octets record, struct syslogbox_parts p)
+{
+    struct syslogbox_fault fault = {77, 78, 79};
+    int64_t count = syslogbox_spans(record.at, record.len, NULL, 0, &fault);
+
+    EXPECT(count >= 8 && is_fault(fault, 77, 78, 79));
+    struct shown exact = spans_of_length((size_t)count), large = spans_of_length((size_t)count + 1);
+    struct shown small = spans_of_length((size_t)count - 1);
+    EXPECT(syslogbox_spans(record.at, record.len, exact.at, (size_t)count, &fault) == count);
+    EXPECT(syslogbox_spans(record.at, record.len, large.at, (size_t)count + 1, NULL) == count);
+    EXPECT(syslogbox_spans(record.at, record.len, small.at, (size_t)count - 1, &fault) == count);
+    EXPECT(is_fault(fault, 77, 78, 79));
+    EXPECT(is_filled((uint8_t *)(large.at + count), sizeof *large.at));
+    for (size_t i = 0; i < (size_t)count; i++) {
+        EXPECT(is_span(large.at[i], exact.at[i].part, exact.at[i].span));
+        EXPECT(i + 1 == (size_t)count || is_span(small.at[i], exact.at[i].part, exact.at[i].span));
+    }
+    const struct syslogbox_part_span *s = exact.at;
+    EXPECT(s[0].part == SYSLOGBOX_PART_PRIORITY && s[0].span.offset == 1 && between(record, s[0].span, '<', '>'));
+    EXPECT((uint32_t)atoi((const char *)record.at + 1) == 8 * p.facility + p.severity);
+    EXPECT(s[1].part == SYSLOGBOX_PART_VERSION && s[1].span.len == 1 && between(record, s[1].span, '>', ' '));
+    EXPECT(s[2].part == SYSLOGBOX_PART_TIMESTAMP && between(record, s[2].span, ' ', ' '));
+    EXPECT(s[2].span.offset == s[1].span.offset + 2 && s[3].span.offset == s[2].span.offset + s[2].span.len + 1);
+    EXPECT((record.at[s[2].span.offset] != '-') == (int)p.has_time);
+    EXPECT(is_word(record, s[3], SYSLOGBOX_PART_HOSTNAME, p.hostname));
+    EXPECT(is_word(record, s[4], SYSLOGBOX_PART_APP_NAME, p.app_name));
+    EXPECT(is_word(record, s[5], SYSLOGBOX_PART_PROC_ID, p.proc_id));
+    EXPECT(is_word(record, s[6], SYSLOGBOX_PART_MSG_ID, p.msg_id));
+    data_spans(record, p, s, (size_t)count);
+    release(exact.octets);
+    release(large.octets);
+    release(small.octets);
+}
+
 static void parts(struct octets record)
 {
     struct syslogbox_parts p;
@@ -229,6 +309,7 @@ static void parts(struct octets record)
     EXPECT(within(record, p.message) && p.message.offset + p.message.len == record.len);
     for (size_t n = 0; n < p.elements; n++)
         element(record, n);
+    spans(record, p);
     EXPECT(syslogbox_element(record.at, record.len, p.elements, &none, &fault) == 0);
     EXPECT(is_fault(fault, SYSLOGBOX_NO_ELEMENT, 0, p.elements));
     EXPECT(syslogbox_element(record.at, record.len, (size_t)-1, &none, NULL) == 0);
@@ -240,16 +321,20 @@ static void no_parts(struct octets record, struct syslogbox_fault right)
     struct syslogbox_parts p;
     struct syslogbox_element e;
     struct syslogbox_param q;
-    struct syslogbox_fault fault[3] = {{0, 0, 0}, {0, 0, 0}, {0, 0, 0}};
+    struct syslogbox_part_span s[2];
+    struct syslogbox_fault fault[4] = {{0, 0, 0}, {0, 0, 0}, {0, 0, 0}, {0, 0, 0}};
 
     memset(&p, FILLED, sizeof p);
     memset(&e, FILLED, sizeof e);
     memset(&q, FILLED, sizeof q);
+    memset(s, FILLED, sizeof s);
     EXPECT(!syslogbox_view(record.at, record.len, &p, fault));
     EXPECT(!syslogbox_element(record.at, record.len, 0, &e, fault + 1));
     EXPECT(!syslogbox_param(record.at, record.len, 0, 0, &q, fault + 2));
+    EXPECT(syslogbox_spans(record.at, record.len, s, 2, fault + 3) == -1);
     EXPECT(is_filled((uint8_t *)&p, sizeof p) && is_filled((uint8_t *)&e, sizeof e) && is_filled((uint8_t *)&q, sizeof q));
-    for (int i = 0; i < 3; i++)
+    EXPECT(is_filled((uint8_t *)s, sizeof s) && syslogbox_spans(record.at, record.len, NULL, 0, NULL) == -1);
+    for (int i = 0; i < 4; i++)
         EXPECT(is_fault(fault[i], right.kind, right.field, right.offset));
 }
 
@@ -449,10 +534,12 @@ static void memory(void)
     struct syslogbox_parts p;
     struct syslogbox_element e;
     struct syslogbox_param q;
+    struct syslogbox_part_span spans[14];
     size_t start, end;
 
     EXPECT(syslogbox_check(record.at, record.len, NULL) && syslogbox_view(record.at, record.len, &p, NULL) && p.elements == 2);
     EXPECT(syslogbox_element(record.at, record.len, 1, &e, NULL) && syslogbox_param(record.at, record.len, 1, 0, &q, NULL));
+    EXPECT(syslogbox_spans(record.at, record.len, spans, 14, NULL) == 14);
     EXPECT(syslogbox_frame(SYSLOGBOX_COUNTED, both->at, both->len, &start, &end) == 19);
     EXPECT(syslogbox_pass(SYSLOGBOX_COUNTED, both->at, both->len, &start) == 19 && start == 1);
     takes_memory("canonical\n", canonical, &record);
@@ -483,6 +570,16 @@ static int64_t views(struct octets record, struct octets out)
     struct syslogbox_parts p;
     (void)out;
     return syslogbox_view(record.at, record.len, &p, NULL);
+}
+
+/* Counts the spans, of which as many are shown as `out` has room for. */
+static int64_t shows_spans(struct octets record, struct octets out)
+{
+    struct shown spans = spans_of_length(out.len / sizeof(struct syslogbox_part_span));
+    int64_t count = syslogbox_spans(record.at, record.len, spans.at, spans.octets.len / sizeof *spans.at, NULL);
+
+    release(spans.octets);
+    return count;
 }
 
 static int64_t finds_element(struct octets record, struct octets out)
@@ -552,8 +649,8 @@ static size_t stack_of(struct run *run)
 static void costs(const char *name)
 {
     static const struct reading readings[] = {
-        {"check", checks}, {"canonical", writes_canonical}, {"view", views}, {"element", finds_element},
-        {"param", finds_param}, {"pass", passes_over}, {"legacy", reads_packet},
+        {"check", checks}, {"canonical", writes_canonical}, {"view", views}, {"spans", shows_spans},
+        {"element", finds_element}, {"param", finds_param}, {"pass", passes_over}, {"legacy", reads_packet},
     };
     struct octets line = of_file(name), out = of_length(2 * line.len + 64);
 

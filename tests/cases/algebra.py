@@ -12,15 +12,41 @@ from lib.reference import archive_text, canonical, read
 
 PAIRS = {"common": second.common, "minus": second.minus, "diff": second.diff}
 
-NOT_TIMES = ["", "-", "2026-11-25", "2026-11-25T10:00:00", "2026-11-25T10:00:00Zx", " 2026-11-25T10:00:00Z", "2026-02-29T10:00:00Z",
+NOT_TIMES = ["", "-", "2026-11", "2026-11-25T10", "2026-11-25T10:00Z", "2026-11-25T10:00:00Zx", " 2026-11-25T10:00:00Z", "2026-02-29T10:00:00Z",
              "9999-12-31T23:59:59-00:01", "0000-01-01T00:00:00+00:01", "2026-11-25t10:00:00z", "2026-11-25T10:00:60Z"]
 LATE = entries(canonical(read(b"<13>1 2026-11-25T10:30:00Z - - - - -")))
+# records of two hosts, of a third without a program, and of none
+FW, WEB, DB, NOBODY = (canonical(read(one)) for one in [
+    b"<13>1 - fw-1 sshd 1 m [a] Failed password", b"<30>1 - web nginx - - - GET /", b"<2>1 - db - - - - slow query",
+    b"<13>1 - - cron 7 - - \xef\xbb\xbfend of \xe2\x82\xac"])
+ALL = [FW, WEB, DB, NOBODY]
+
+# conditions, and which of these records meet them
+SELECTED = [
+    (["--host", "fw-1"], [FW]), (["--host", "fw-1", "--host", "db"], [FW, DB]), (["--host", "-"], [NOBODY]),
+    (["--host", "-", "--host", "web"], [WEB, NOBODY]), (["--host", "FW-1"], []), (["--host", "fw"], []),
+    (["--host", "fw-1", "--app", "nginx"], []), (["--host", "fw-1", "--app", "nginx", "--app", "sshd"], [FW]),
+    (["--proc", "1", "--proc", "7"], [FW, NOBODY]), (["--msgid", "m", "--msgid", "-"], ALL), (["--id", "b", "--id", "a"], [FW]),
+    (["--facility", "user", "--facility", "kern"], [FW, DB, NOBODY]), (["--facility", "daemon", "--severity", "notice"], []),
+    (["--not-host", "fw-1"], [WEB, DB, NOBODY]), (["--not-host", "fw-1", "--not-host", "web"], [DB, NOBODY]),
+    (["--not-host", "-"], [FW, WEB, DB]), (["--host", "web", "--host", "db", "--not-host", "db"], [WEB]),
+    (["--not-app", "-"], [FW, WEB, NOBODY]), (["--not-app", "sshd", "--not-app", "cron"], [WEB, DB]),
+    (["--host-like", "*"], [FW, WEB, DB]), (["--host-like", "fw-*"], [FW]), (["--host-like", "??", "--host-like", "*e*"], [WEB, DB]),
+    (["--host-like", "w"], []), (["--app-like", "*n*", "--not-host", "-"], [WEB]), (["--app-like=-*"], []),
+    (["--message", "pass"], [FW]), (["--message", "Pass"], []), (["--message", "e", "--host", "db"], [DB]),
+    (["--message", "slow", "--message", "GET /"], [WEB, DB]), (["--message", "\u20ac"], [NOBODY]), (["--message", "\ufeff"], []),
+    (["--not-message", " "], []), (["--not-message", "query", "--not-message", "password"], [WEB, NOBODY]),
+]
 
 # words, standard input, status, standard output, standard error (None: any text, but some)
 ON_INPUT = [
     ("nothing is selected of the empty archive", ["select"], b"", 0, b"", b""),
     ("all is selected without a condition", ["select"], entries(A), 0, entries(A), b""),
     ("what begins at the instant", ["select", "--from", "2026-11-25T10:30:00Z"], LATE, 0, LATE, b""),
+    *[(f"what begins at {time}", ["select", "--from", time], LATE, 0, LATE, b"")
+      for time in ["2026-11-25", "2026-11-25T10:30", "2026-11-25T10:30:00", "2026-11-25T10:30:00.000000"]],
+    *[(f"what begins before {time}", ["select", "--to", time], LATE, 0, b"", b"")
+      for time in ["2026-11-25", "2026-11-25T10:30", "2026-11-25T10:30:00", "2026-11-25T10:30:00.000000"]],
     ("what begins behind it", ["select", "--from", "2026-11-25T10:30:00.000001Z"], LATE, 0, b"", b""),
     ("what ends at the instant", ["select", "--to", "2026-11-25T10:30:00Z"], LATE, 0, b"", b""),
     ("what ends behind it", ["select", "--to", "2026-11-25T10:30:00.000001Z"], LATE, 0, LATE, b""),
@@ -29,8 +55,15 @@ ON_INPUT = [
     *[("a time that is none", ["select", f"{bound}={time}"], b"x", 2, b"", invalid(bound, time, TIME))
       for bound in ["--from", "--to"] for time in NOT_TIMES],
     *[("a condition given twice", ["select", *(option * 2)], b"x", 2, b"", None)
-      for option in [["--from", TIMES[4]], ["--to", TIMES[4]], ["--undated"], ["--only-undated"], ["--severity", "err"],
-                     ["--facility", "kern"], ["--host", "h"], ["--app", "a"], ["--proc", "1"], ["--msgid", "m"], ["--id", "a"]]],
+      for option in [["--from", TIMES[4]], ["--to", TIMES[4]], ["--undated"], ["--only-undated"], ["--severity", "err"]]],
+    *[(" ".join(words), ["select", *words], archive_text(ALL), 0, archive_text(chosen), b"") for words, chosen in SELECTED],
+    *[("a word that no record can have", ["select", f"{option}={word}"], b"x", 2, b"", invalid(option, word))
+      for option, most in [("--host", 255), ("--app", 48), ("--proc", 128), ("--msgid", 32), ("--id", 32), ("--not-host", 255), ("--not-app", 48)]
+      for word in ["", "a b", "\x7f", "\u20ac", "w" * (most + 1)]],
+    *[("an id that is none", ["select", "--id", word], b"x", 2, b"", invalid("--id", word)) for word in ["a=", "a]", 'a"']],
+    *[("a pattern that is none", ["select", f"{option}={word}"], b"x", 2, b"", invalid(option, word))
+      for option in ["--host-like", "--app-like"] for word in ["", "*" * 1_025]],
+    *[("an empty text", ["select", f"{option}="], b"x", 2, b"", invalid(option, "")) for option in ["--message", "--not-message"]],
     *[("undated alone, with a range", ["select", "--only-undated", bound, TIMES[4]], b"x", 2, b"",
        f"error: --only-undated cannot be used with {bound}\n".encode()) for bound in ["--from", "--to"]],
     *[("a name that is none", ["select", option, name], b"x", 2, b"", invalid(option, name))

@@ -5,11 +5,13 @@ import contextlib
 import doctest
 import importlib
 import io
+import json
 import logging
 import os
 import shutil
 import subprocess
 import sys
+import time
 from random import Random
 
 from cases.colliding_ids import FRONT, STACK, colliding, data, fitting, ids, most
@@ -107,8 +109,8 @@ def hardest(results, folder, calls):
         record = FRONT + data(names) + b" "
         record += b"x" * (reference.ENTRY_MAX - len(record))
         form = len(record) + 3
-        read = {"check": 1, "canonical": form, "view": 1, "element": 1, "param": 0, "pass": len(record) + 1, "legacy": form}
-        none = {"check": 0, "canonical": -1, "view": 0, "element": 0, "param": 0, "pass": 0, "legacy": -1}
+        read = {"check": 1, "canonical": form, "view": 1, "spans": 8 + len(names), "element": 1, "param": 0, "pass": len(record) + 1, "legacy": form}
+        none = {"check": 0, "canonical": -1, "view": 0, "spans": -1, "element": 0, "param": 0, "pass": 0, "legacy": -1}
         for octets, right in [(record, read), (record + b"x", none)]:
             status, output, notes = run(calls, ["costs", folder.file("record", octets + b"\n")])
             rows = [line.split() for line in output.decode().splitlines()]
@@ -205,6 +207,8 @@ def in_python(program, results, folder, frames, answers):
     some = [frame for frame, answer in zip(frames, answers) if isinstance(answer, bytes)]
     shown = next((f"{frame!r}" for frame in some[:20_000] if not same_parts(module.view(frame), reference.read(frame))), "")
     results.check("Python: parts", not shown, shown)
+    many_params(results, module)
+    shown_as_json(program, results, module, some[:10_000])
     for year, minutes, packet, form in forms():
         results.check(f"Python: a legacy packet {packet!r}", module.legacy(packet, year, minutes) == form)
     for call, kind in [(lambda: module.legacy(b"x", 10_000), "BAD_CLOCK"), (lambda: module.legacy(b"x", 2 ** 40), "BAD_CLOCK"),
@@ -277,6 +281,29 @@ def same_parts(seen, right):
     data = sorted((element.id.encode(), [(name.encode(), value.encode()) for name, value in element.params])
                   for element in seen.elements)
     return (seen.priority, seen.micros, words, data, seen.message, seen.bom) == parts_of(right)
+
+
+def many_params(results, module):
+    """A record with 12,000 parameters takes no more than a few milliseconds for each thousand."""
+    record = b"<0>1 - - - - - [id" + b' k="v"' * 12_000 + b"] m"
+    before = time.process_time()
+    params = module.view(record).elements[0].params
+    taken = time.process_time() - before
+    results.check("Python: 12,000 parameters", params == (("k", "v"),) * 12_000 and taken < 0.5, f"{len(params)} in {taken:.3f} s")
+
+
+def shown_as_json(program, results, module, records):
+    """What `view` gives is what `show --json` prints."""
+    some = [record for record in records if 0 < len(record) <= module.FRAME_MAX]
+    lines = program.run(["show", "--json", "--framing", "counted"], reference.counted(some))[1].splitlines()
+    wrong = next((f"{record!r}" for record, line in zip(some, lines) if not same_json(module.view(record), json.loads(line))), "")
+    results.check(f"Python: {len(some)} records as `show --json` has them", len(lines) == len(some) and not wrong, wrong)
+
+
+def same_json(seen, right):
+    words = seen.hostname, seen.app_name, seen.proc_id, seen.msg_id
+    data = {element.id: [list(param) for param in element.params] for element in seen.elements}
+    return (seen.priority, *words, data) == tuple(right[key] for key in ("priority", "host", "app", "proc", "msgid", "data"))
 
 
 def parts_of(record):
@@ -402,7 +429,7 @@ def bindings(program, results):
         return
     frames, answers = known(program)
     exported = run("nm", ["-D", "--defined-only", ROOT / "build/libsyslogbox.so.0"])[1].split()[2::3]
-    calls = sorted(f"syslogbox_{name}".encode() for name in "canonical check element frame legacy param pass union value view".split())
+    calls = sorted(f"syslogbox_{name}".encode() for name in "canonical check element frame legacy param pass spans union value view".split())
     results.check("the shared library has the header's calls alone", sorted(exported) == calls, str(exported))
     in_c(program, results, program.folder, frames, answers)
     in_python(program, results, program.folder, frames, answers)

@@ -57,7 +57,7 @@ def usages(program, results):
     for name in sorted({*names} - {"help"}):
         for words in [[name, "--help"], ["help", name], [name, "--no-such-option"]]:
             text = program.run(words, b"")[2].decode()
-            results.check(f"{' '.join(words)}: the usage", f"\nUsage: syslogbox {name} " in text, text)
+            results.check(f"{' '.join(words)}: the usage", re.search(f"\nUsage: syslogbox {name}[ \n]", text), text)
 
 
 def unescaped(text):

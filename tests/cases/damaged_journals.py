@@ -4,7 +4,7 @@ import tempfile
 from lib.reference import COUNT, COUNT_PREFIX, ENTRY_MAX, archive_text, canonical, counted, entry_fault
 from lib.server import SOON, Runs, any_port
 from lib.store_format import CLOSED, HEAD, JOURNAL, OLDER_CLOSED, OPEN, SEAL, bodies_of, files_of, hides_batches, of_journal
-from lib.store_format import open_batch, seal_of
+from lib.store_format import first_unsealed, open_batch, seal_of
 
 SENT = [b"<13>1 - h journal - - - first", b"<14>1 2026-11-25T10:00:00.000000Z h journal - - - second",
         b"<15>1 - h journal - - - the third and last"]
@@ -47,12 +47,14 @@ def place_of(octets):
     bodies, end = bodies_of(octets)
     if hides_batches(octets[end:]):
         return f"hidden {end}"
-    at = 0
-    for body in bodies:
+    at, unsealed = 0, first_unsealed(bodies)
+    for n, body in enumerate(bodies):
         fault = fault_of_batch(body, at + HEAD)
         if fault:
             return fault
         at += HEAD + len(body)
+        if n == unsealed:
+            return f"checksum {at}"
     return None
 
 
@@ -139,9 +141,39 @@ def torn(runs, store, path):
     path.write_bytes(whole + bytes([CLOSED]))
 
 
+def unsealed(runs, store, path):
+    """Behind a batch with its checksum one without is damage, and before all such it is not."""
+    whole, batch = path.read_bytes(), open_batch(counted([SENT[0]]))
+    behind = whole[:-1] + batch + bytes([CLOSED])
+    runs.results.same("a batch without a checksum behind", tried(runs, "without a checksum", store, path, behind), None)
+    runs.refused("a start on a batch without a checksum", any_port("lf"), store, path.name, store=store)
+    runs.results.same("it stays", path.read_bytes(), behind)
+    found = tried(runs, "without a checksum, before", store, path, batch + whole)
+    runs.results.same("a batch without a checksum before", found, frozenset(SENT))
+    path.write_bytes(whole)
+
+
+def aside(runs, store, path):
+    """What a start cuts off is set aside before, behind what was set aside before, and told."""
+    whole, other, right = path.read_bytes(), store / f"damaged.{path.name}", b""
+    name = path.name.encode()
+    for what, octets in [("torn", whole + b"\x05\0\0\0torn"), ("empty", bytes(16) + whole[16:])]:
+        path.write_bytes(octets)
+        tail = octets[bodies_of(octets)[1]:]
+        right += tail
+        with runs.until_eof(*any_port("lf"), *SOON, store=store) as server:
+            runs.holds(f"a start on a {what} journal", server, *(SENT if what == "torn" else []))
+            runs.ends(f"a start on a {what} journal", server, 0,
+                      b"%b: %d octets behind the last batch set aside in damaged.%b" % (name, len(tail), name))
+        runs.results.same(f"what is set aside of a {what} journal", other.read_bytes(), right)
+        runs.results.same(f"a {what} journal: verify", runs.verify(store), (0, b"", b""))
+    path.write_bytes(whole)
+    other.unlink()
+
+
 def damaged_journals(program, results):
     with tempfile.TemporaryDirectory() as path:
         runs = Runs(program, results, path)
         store, journal = served(runs)
-        for each in each_bit, each_opening, each_start, torn, older:
+        for each in each_bit, each_opening, each_start, torn, unsealed, aside, older:
             each(runs, store, journal)

@@ -40,9 +40,14 @@ def zone(minutes):
     return f"{'W' if minutes < 0 else 'E'}{abs(minutes) // 60:02d}{abs(minutes) % 60:02d}"
 
 
+def source(path):
+    """A file of Rattle whose texts are each on one line."""
+    return re.sub(r"\\\n *", "", path.read_text())
+
+
 def forms():
     return [(int(year), int(minutes), ast.literal_eval(packet), ast.literal_eval(form))
-            for year, minutes, packet, form in FORM.findall(FORMS.read_text())]
+            for year, minutes, packet, form in FORM.findall(source(FORMS))]
 
 
 def table(program, results):
@@ -64,7 +69,7 @@ def table(program, results):
 
 
 def rows():
-    return [tuple(ast.literal_eval(text) for text in row) for row in ROW.findall(WIDE.read_text())]
+    return [tuple(ast.literal_eval(text) for text in row) for row in ROW.findall(source(WIDE))]
 
 
 def wide_table(program, results):

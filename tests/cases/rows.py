@@ -99,20 +99,25 @@ TAKES = {
     "--by": "month, day or hour", "--udp": ADDRESS, "--counted": ADDRESS, "--lf": ADDRESS, "--inherited": "udp, counted or lf",
     "--connections": "a number from 1 to 16384", "--per-peer": "a number from 1 to 16384",
     "--idle": "a number from 1 to 31536000", "--commit": "a number from 0 to 3600000",
-    "--checkpoint": "a number from 1 to 2048",
+    "--checkpoint": "a number from 1 to 2048", "--unix": "the name of a file",
+    **{option: f"1 to {most} printable ASCII characters without spaces, or - for none"
+       for option, most in [("--host", 255), ("--app", 48), ("--proc", 128), ("--msgid", 32), ("--not-host", 255), ("--not-app", 48)]},
+    "--id": '1 to 32 printable ASCII characters without spaces, =, ] and "',
+    **dict.fromkeys(["--message", "--not-message"], "a text that is not empty"),
+    **dict.fromkeys(["--host-like", "--app-like"], "1 to 1024 octets, of which * stands for any number of others and ? for one"),
 }
 # values that options of serve do not take
 REFUSED_OF_SERVE = {
     "--udp": [HERE, "localhost:514", "127.1:514", ":514", "127.0.0.1:-1"],
     "--counted": [f"{HERE}:65536", f"{HERE}:", "::1:514"], "--lf": ["[::1]", "", "[::1:514"],
-    "--inherited": ["unix", "", "UDP"],
+    "--inherited": ["unix", "", "UDP"], "--unix": [""],
     "--connections": ["0", "16385", "", "x", "+1", "1.5", "18446744073709551617"], "--idle": ["0", "31536001", "never"],
     "--commit": ["3600001", "1s"], "--checkpoint": ["0", "2049", "64M"],
     "--per-peer": ["0", "16385"], "--legacy": ["0", "9999"],
     "--zone": ["E2400", "0000"], "--dialect": ["rfc3164", ""],
 }
 
-TIME = "a time of RFC 5424 in the years 0 to 9999 of UTC, such as 2026-11-25T10:00:00Z"
+TIME = "a time in the years 0 to 9999 of UTC, such as 2026-11-25T10:00:00Z, 2026-11-25T10:00 or 2026-11-25"
 
 
 def invalid(option, value, takes=None):
@@ -195,6 +200,8 @@ WORDS = [
     ("an inherited listener of no kind", ["serve", ".", "--inherited", "unix"], HELLO, 2, b"", invalid("--inherited", "unix")),
     ("no connection at all", ["serve", ".", "--unix", "s", "--connections", "0"], HELLO, 2, b"", invalid("--connections", 0)),
     ("too many connections", ["serve", ".", "--unix", "s", "--connections", "16385"], HELLO, 2, b"", invalid("--connections", 16385)),
+    ("more connections of an address than in all", ["serve", ".", "--unix", "s", "--per-peer", "20", "--connections", "10"], HELLO, 2, b"",
+     b"error: the value of --per-peer is greater than that of --connections\n"),
     ("idle for no second", ["serve", ".", "--unix", "s", "--idle", "0"], HELLO, 2, b"", invalid("--idle", 0)),
     ("a commit after more than an hour", ["serve", ".", "--unix", "s", "--commit", "3600001"], HELLO, 2, b"", invalid("--commit", 3600001)),
     ("the first of two values that are refused", ["serve", ".", "--idle", "0", "--udp", "514"], HELLO, 2, b"", invalid("--udp", 514)),

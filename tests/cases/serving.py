@@ -10,6 +10,7 @@ import re
 import signal
 import socket
 import tempfile
+from pathlib import Path
 from random import Random
 
 from cases.mutated import mutations
@@ -23,6 +24,7 @@ from lib.server import (SOON, Runs, any_port, datagrams_wait, end, family_of, ha
 from lib.store_format import bodies_of, seal_of
 
 SEED = 5426
+UNTIL_STOPPED = Path(__file__).resolve().parents[2] / "contrib/until-stopped"
 FRAME_MAX = 262_144
 REFUSED_MAX = 64 << 20
 BURST = 100  # lines on one peer that are told at once
@@ -635,8 +637,22 @@ def counts(runs):
         runs.results.check("each frame is told once", len(others) == 6, str(others))
 
 
+def stopped_by_signal(runs):
+    """Under contrib/until-stopped a signal ends the input: what waits is read and committed, and the status is the server's."""
+    front = [str(UNTIL_STOPPED)]
+    for number, octets, status in [(signal.SIGTERM, b"", 0), (signal.SIGINT, b"x\n", 1)]:
+        with runs.server(*any_port("udp"), *any_port("lf"), "--until-eof", "--commit", 3_600_000, front=front) as server:
+            server.datagrams("udp", numbered(1))
+            server.send("lf", numbered(2) + b"\n" + octets)
+            server.process.send_signal(number)
+            runs.results.same(f"signal {number}: its status", server.status(), status)
+        text = archive_text([numbered(1), numbered(2)])
+        runs.results.same(f"signal {number}: what is read", server.read(), (0, text, b""))
+
+
 TESTS = [listeners, families, inherited, not_inherited, streams, datagrams, at_once, cut_over, readings, wrong, endless,
-         numbers, too_many, idle, few_descriptors, commits, statuses, open_ends, busy_end, signals, inputs, no_notes, counts,
+         numbers, too_many, idle, few_descriptors, commits, statuses, open_ends, busy_end, signals, stopped_by_signal, inputs,
+         no_notes, counts,
          *KEPT]
 
 

@@ -17,6 +17,9 @@ from lib.stores import Keeper, records
 ALL = [*any_port("udp"), *any_port("counted"), *any_port("lf")]
 
 
+# what a start may tell after a kill
+SET_ASIDE = re.compile(rb"(journal\.\d+): \d+ octets behind the last batch set aside in damaged\.\1")
+
 # ---------------------------------------------------------------- kills
 
 class Sender(threading.Thread):
@@ -72,7 +75,9 @@ def kills(runs):
         with runs.until_eof(*words, store=one) as server:
             for kind, frames in shares:
                 server.send(kind, *(framed(kind, frame) for frame in frames))
-            runs.ends("a server that was sent everything", server, 0)
+            status, lines = server.end()
+            is_right = status == 0 and all(SET_ASIDE.fullmatch(line) for line in lines) and len(lines) < 2
+            runs.results.check("a server that was sent everything: its end", is_right, f"{status} {lines}")
             answers.append(server.read())
             runs.results.same("its store is whole", runs.verify(one), (0, b"", b""))
     right = runs.archive(counted(sent), "--framing", "counted")
@@ -317,12 +322,71 @@ def written_anew(runs):
     other = b"failed 00000000-0000-0000-0000-000000000000\n"
     for what, octets, is_anew in [("another run of the system", other, not boot_id()), ("no note", b"", False),
                                   ("this run of the system", note, True), ("a torn note", b"fail", True),
-                                  ("an unknown run", b"failed \n", True)]:
+                                  ("an unknown run", b"failed \n", True), ("a space behind", note[:-1] + b" \n", True),
+                                  ("upper case", note.upper(), True), ("no line feed", note[:-1], True),
+                                  ("a word behind", b"synced %b so\n" % boot_id(), True),
+                                  ("no run", b"synced today\n", True)]:
         (store / "lock").write_bytes(octets)
         started(runs, what, store, is_anew, right)
     for kind in "create", "write", "sync", "rename", "names", "remove":
         (store / "lock").write_bytes(note)
         not_written_anew(runs, store, kind, note, right)
+
+
+def damaged_and_noted(runs):
+    """With the note of a sync that failed a damaged journal is told first, and stays; that of the greatest number is not
+    told as a full disk."""
+    with runs.until_eof(*any_port("lf"), *SOON) as server:
+        server.send("lf", A + b"\n")
+        runs.holds("a journal", server, A)
+        runs.ends("a journal", server, 0)
+    store, note = server.store, b"failed %b\n" % boot_id()
+    (name, whole), *_ = journals_of(store).items()
+    path = store / name.decode()
+    (store / "lock").write_bytes(note)
+    path.write_bytes(whole[:HEAD] + b"x" + whole[HEAD + 1:])
+    before = files_of(store)
+    runs.refused("a damaged journal, and a note", any_port("lf"), store, f"{path.name}: ", store=store)
+    equal(runs, "a damaged journal, and a note: what is there", files_of(store), before)
+    last = store / f"journal.{2 ** 64 - 1}"
+    os.rename(path, last)
+    last.write_bytes(whole)
+    with runs.server(*any_port("lf"), store=store) as server:
+        status, told = server.status(), server.told()
+    right = [ANEW, b"%b: %b: no journal has a greater number" % (bytes(store), last.name.encode())]
+    equal(runs, "the last journal, and a note", (status, told), (2, right))
+
+
+def full_anew(runs):
+    """On a disk without room for a copy of the journal no draft of it is left."""
+    disk = runs.path / "small"
+    disk.mkdir()
+    if subprocess.run(["mount", "-t", "tmpfs", "-o", "size=256k", "none", str(disk)], capture_output=True).returncode != 0:
+        return
+    try:
+        store = disk / "store"
+        with runs.until_eof(*any_port("counted"), *SOON, store=store) as server:
+            server.send("counted", counted([b"%b %b" % (numbered(n), b"x" * 2_000) for n in range(70)]))
+            until(lambda: len(server.held()) == 70)
+            runs.ends("most of a disk", server, 0)
+        (store / "lock").write_bytes(b"failed %b\n" % boot_id())
+        names = set(files_of(store))
+        with runs.server(*any_port("lf"), store=store) as server:
+            status, told = server.status(), server.told()
+        right = status == 2 and told[0] == ANEW and told[1:] and told[1].endswith(b"No space left on device (os error 28)")
+        runs.results.check("no room for a copy: its end", right, f"{status} {told}")
+        equal(runs, "no room for a copy: what is there", set(files_of(store)), names)
+        (store / "lock").write_bytes(b"")
+        (disk / "rest").write_bytes(b"")
+        try:
+            with open(disk / "rest", "ab", buffering=0) as rest:
+                while True:
+                    rest.write(bytes(512))
+        except OSError:
+            pass  # no room is left
+        runs.refused("no room for a note", any_port("lf"), f"{store}/lock: ", "No space left on device", store=store)
+    finally:
+        subprocess.run(["umount", str(disk)], check=True)
 
 
 def not_written_anew(runs, store, kind, note, right):
@@ -452,5 +516,5 @@ def options(runs):
         runs.results.check(f"serve {words}", right, f"{status} {output} {notes}")
 
 
-KEPT = [kills, checkpoints, damaged_journal, older_journal, full, full_mount, failing, written_anew, gone_reader, second, ports, paths,
-        folders, options]
+KEPT = [kills, checkpoints, damaged_journal, older_journal, full, full_mount, failing, written_anew, damaged_and_noted,
+        full_anew, gone_reader, second, ports, paths, folders, options]

@@ -149,6 +149,23 @@ def in_place(folders):
                 results.check(f"{label}: its target", same)
 
 
+def locks(folders):
+    """A lock that has another name, or another owner, is refused, and nothing is written to it."""
+    results, target = folders.results, folders.path / "target"
+    for command, name in ("serve", "lock"), ("compact", "lock.compact"):
+        store = folders.copy()
+        (store / name).unlink(missing_ok=True)
+        os.link(target, store / name)
+        folders.told(f"{command} with a hard link", folders.run(command, store), f"{name}: ".encode(), b"it has another name")
+        results.same(f"{command} with a hard link: its target", target.read_bytes(), TARGET)
+        if os.getuid() == 0:
+            (store / name).unlink()
+            (store / name).touch()
+            os.chown(store / name, OTHER, OTHER)
+            words = f"{name}: ".encode(), b"its owner is another user"
+            folders.told(f"{command} with another's lock", folders.run(command, store), *words)
+
+
 def drafts(folders):
     """The same of a segment that is being written, at a checkpoint."""
     records = [b"%b %b" % (numbered(n), b"x" * 30_000) for n in range(50)]
@@ -323,7 +340,7 @@ def compacting(folders, name, whole):
 
 
 def unsafe_folders(program, results):
-    for part in in_place, drafts, exchanged, open_folders, owners, memory:
+    for part in in_place, locks, drafts, exchanged, open_folders, owners, memory:
         with tempfile.TemporaryDirectory() as path:
             folders = Folders(program, results, path)
             (folders.path / "target").write_bytes(TARGET)

@@ -34,7 +34,9 @@ POOL = [canonical(read(f"<{priority}>1 {time} {words} {data}{message}".encode())
             (191, "g a - m", "-", " é"), (30, "h b 2 -", "[-]", "")]]
 CONDITIONS = {"undated": [True], "severity": ["emerg", "err", "notice", "info", "debug"],
               "facility": ["kern", "user", "local7", "daemon"], "host": ["h", "g", "-", "x"], "app": ["a", "b", "-"],
-              "proc": ["1", "2", "-"], "msgid": ["m", "-"], "id": ["a", "b", "-", "c"]}
+              "proc": ["1", "2", "-"], "msgid": ["m", "-"], "id": ["a", "b", "-", "c"],
+              "message": ["x", "é", "\n", " x", "y"], "host_like": ["*", "?", "h*", "*g", "??"], "app_like": ["a*", "?", "b"],
+              "not_host": ["h", "-", "x"], "not_app": ["a", "-"], "not_message": ["x", "é"]}
 SWEEP = 2_000  # of so many draws, one is broken at every octet
 LONGEST = 150  # octets of a hostile record
 
@@ -83,7 +85,9 @@ def conditions(make):
         given["only_undated"] = True
     else:
         given.update({name: make.pick(BOUNDS) for name in ("from", "to") if make.chance(0.4)})
-    given.update({name: make.pick(values) for name, values in CONDITIONS.items() if make.chance(0.15)})
+    for name, values in CONDITIONS.items():
+        if make.chance(0.15):
+            given[name] = [make.pick(values) for _ in range(1 + make.below(2))] if name in second.LISTS else make.pick(values)
     if "only_undated" in given:
         given.pop("undated", None)
     return second.Conditions(**given)

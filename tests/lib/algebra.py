@@ -3,6 +3,7 @@ and the lines of `show --json`. Each answers status, output and notes."""
 import base64
 import hashlib
 import json
+import re
 from functools import lru_cache
 
 from lib.reference import (FACILITIES, MARK, SEVERITIES, Answers, Record, answer, archive_read, archive_text, instant, is_utf8, lines_of,
@@ -62,17 +63,42 @@ def diff(left, right):
 
 # ---------------------------------------------------------------- one archive
 
+WORDS = ["host", "app", "proc", "msgid"]
+# options that may be given several times
+LISTS = ["facility", *WORDS, "id", "message", "host_like", "app_like", "not_host", "not_app", "not_message"]
+
+
+def is_like(word, pattern):
+    """Whether a word is like a pattern, in which `*` is any octets and `?` any one octet."""
+    parts = {ord("*"): b".*", ord("?"): b"."}
+    return re.fullmatch(b"".join(parts.get(one) or re.escape(bytes([one])) for one in pattern), word, re.DOTALL) is not None
+
+
+def passes(record, name, value):
+    """Whether a record passes the test of one value of an option. A word that is `-` means none."""
+    octets = value.encode()
+    if name == "facility":
+        return record.priority // 8 == FACILITIES.index(value)
+    if name in WORDS:
+        return record.words[WORDS.index(name)] == octets
+    if name.endswith("_like"):
+        word = record.words[WORDS.index(name[:-5])]
+        return word != b"-" and is_like(word, octets)
+    return octets in record.message.removeprefix(MARK) if name == "message" else octets in [id for id, _ in record.came]
+
+
 class Conditions:
-    """The conditions of `select`, None where one is not given. A word that is `-` means none."""
+    """The conditions of `select`: the values of those that may be given several times in a list, True for a flag."""
 
     def __init__(self, **given):
         self.given = given
 
     def words(self):
-        """The words of the command line."""
+        """The words of the command line, with = before a value, which may begin with a hyphen."""
         words = []
-        for name, value in self.given.items():
-            words += [f"--{name.replace('_', '-')}"] if value is True else [f"--{name}", value]
+        for name, values in self.given.items():
+            option = f"--{name.replace('_', '-')}"
+            words += [option] if values is True else [f"{option}={it}" for it in (values if name in LISTS else [values])]
         return words
 
     def hold(self, octets):
@@ -86,12 +112,8 @@ class Conditions:
             return False
         if "severity" in given and record.priority % 8 > SEVERITIES.index(given["severity"]):
             return False
-        if "facility" in given and record.priority // 8 != FACILITIES.index(given["facility"]):
-            return False
-        for n, name in enumerate(["host", "app", "proc", "msgid"]):
-            if name in given and record.words[n] != given[name].encode():
-                return False
-        return "id" not in given or given["id"].encode() in [name for name, _ in record.came]
+        met = {name: any(passes(record, name.removeprefix("not_"), value) for value in given[name]) for name in LISTS if name in given}
+        return all(holds != name.startswith("not_") for name, holds in met.items())
 
 
 def select(text, conditions):

@@ -91,11 +91,24 @@ def of_batch(body):
     return of_entries(body) if found is None else found
 
 
+def has_seal(body):
+    """Whether a body is entries and their seal."""
+    return is_sealed(body) and of_entries(body[:-SEAL]) is not None
+
+
+def first_unsealed(bodies):
+    """The number of the first batch without a seal behind one that has its own; None where there is none."""
+    found = [n for n, body in enumerate(bodies) if n and has_seal(bodies[n - 1]) and not has_seal(body)]
+    return found[0] if found else None
+
+
 def of_journal(octets):
     """The records of a journal, None where it is damaged."""
     bodies, end = bodies_of(octets)
     parts = [of_batch(body) for body in bodies]
-    return None if None in parts or hides_batches(octets[end:]) else frozenset().union(*parts)
+    if None in parts or first_unsealed(bodies) is not None or hides_batches(octets[end:]):
+        return None
+    return frozenset().union(*parts)
 
 
 def day_of(record):

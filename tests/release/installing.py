@@ -4,6 +4,7 @@ import os
 import re
 import subprocess
 import sys
+from pathlib import Path
 
 from first import RECORD, converts
 from results import ROOT, clone, lacking, name_sources, run
@@ -32,8 +33,10 @@ def units(name, below, program, results):
     for unit, calls in UNITS.items():
         file = below / "lib/systemd/system" / unit
         text = file.read_text() if file.exists() else ""
-        called = [line.split()[0] for line in text.splitlines() if line.startswith("ExecStart=")]
-        results.check(f"{name}: {unit} calls the program there", text and called == [f"ExecStart={program}"] * calls, text)
+        called = [line.removeprefix("ExecStart=").split() for line in text.splitlines() if line.startswith("ExecStart=")]
+        stopping = str(Path(program).parent.parent / "lib/syslogbox/until-stopped")
+        right = all((words[1:2] if words[0] == stopping else words[:1]) == [program] for words in called)
+        results.check(f"{name}: {unit} calls the program there", text and right and len(called) == calls, text)
 
 
 def in_c(name, room, results, told, environment=None):

@@ -3,11 +3,10 @@ use Rattle.std.proofs.Common.{◌≡◌, ℕ, ◌+◌, ◌*◌, ◌<◌, ◌≤�
 use Rattle.jiff_core.specs.declared.civil.date.Date.{Date}
 use Rattle.jiff_core.proofs.DateLemmas.{IsEarlier, cases_date, epoch_day-lt}
 use Rattle.jiff_core.proofs.SignedLemmas.{signed_arith}
-use Rattle.std.proofs.lemmas.Bool.Decides.{nat_tests}
-use Rattle.syslog_value.specs.Calendar.{day_number, month_length}
+use Rattle.syslog_value.specs.Calendar.{day_number}
 use Rattle.syslog_value.specs.Instants.{HasDate, IsCivil, instant_of, second_of_day}
 use Rattle.syslog_value.specs.declared.civil.Civil.{Civil}
-use Rattle.syslog_value.proofs.DayNumbers.{day_number-same, month_length-same}
+use Rattle.syslog_value.proofs.DayNumbers.{day_number-same, month_length-same, month_most}
 use Rattle.archive_digest.specs.declared.period.Period.{Period}
 use Rattle.archive_digest.specs.declared.period.Period.TheVariants.{Month, Day, Hour}
 
@@ -28,9 +27,6 @@ date_of c h = record {
   month_in = (h.1, h.2);
   day_in = (h.3, rw month_length-same h.4);
 }
-
-pub month_most : (y m : ℕ) → month_length y m ≤ 31
-month_most y m = grind (arith, nat_tests)
 
 -- the day number of a date, which comes before another
 earlier_day : (c d : Civil) (hc : HasDate c) (hd : HasDate d) → IsEarlier (date_of c hc) (date_of d hd)

@@ -13,7 +13,9 @@ use Rattle.archive_text.specs.Entries.{InstantBelow}
 use Rattle.archive_digest.specs.Periods.{IsPeriodOf, name_length}
 use Rattle.archive_digest.specs.declared.period.Period.{Period}
 use Rattle.archive_digest.specs.declared.period.Period.TheVariants.{Month, Day, Hour}
-use Rattle.archive_digest.proofs.Civils.{key, key_rises, month_most}
+use Rattle.archive_digest.proofs.Civils.{key, key_rises}
+use Rattle.syslog_fields.proofs.Times.{two_shown}
+use Rattle.syslog_value.proofs.DayNumbers.{month_most}
 
 not_below : (i j : ℤ) → ¬ (j <ℤ i) → i ≤ℤ j
 not_below i j h = by_lt_z j i (λ less. absurd (h less)) (λ from. from)
@@ -60,9 +62,6 @@ year_shown : (y z : ℕ) → y ≤ 9999 → z ≤ 9999 → 48 + y / 10 / 10 / 10
     → 48 + y / 10 / 10 % 10 ≡ 48 + z / 10 / 10 % 10 → 48 + y / 10 % 10 ≡ 48 + z / 10 % 10
     → 48 + y % 10 ≡ 48 + z % 10 → y ≡ z
 year_shown y z hy hz a b c d = omega arith
-
-two_shown : (m n : ℕ) → m ≤ 99 → n ≤ 99 → 48 + m / 10 % 10 ≡ 48 + n / 10 % 10 → 48 + m % 10 ≡ 48 + n % 10 → m ≡ n
-two_shown m n hm hn a b = omega arith
 
 month_shown : (c d : Civil) → IsCivil c → IsCivil d → name_of Month c ≡ name_of Month d
     → (c.year ≡ d.year) × (c.month ≡ d.month)

@@ -23,6 +23,7 @@ use Rattle.frame_engine.specs.declared.line.Line.TheVariants as line
 use Rattle.frame_engine.proofs.HandlingLemmas.{then_assoc, then_nothing}
 use Rattle.archive_engine.specs.Archived.{archive_handling}
 use Rattle.archive_engine.specs.Outcomes.{has_bad_count, is_bad_count, noted_outcome, noted_outcomes}
+use Rattle.std.proofs.lemmas.Bool.{or_parts}
 
 noted_good : (n : ℕ) (o : Outcome) (os : List Outcome) → is_bad_count o ≡ false
     → noted_outcomes n (o ∷ os) ≡ then_done (noted_outcome n o) (noted_outcomes (n + 1) os)
@@ -178,17 +179,12 @@ reported_first way old new fs (o ∷ first) later (here, behind, between, parts,
       (here, h, between, refl, one, m),
     )
 
-neither : (a b : Bool) → (a || b) ≡ false → (a ≡ false) × (b ≡ false)
-neither false false h = (refl, refl)
-neither false true h = absurd cc
-neither true b h = absurd cc
-
 -- what is noted of outcomes without a bad count, and then of others
 pub noted_append : (n m : ℕ) (xs ys : List Outcome) → has_bad_count xs ≡ false → m ≡ n + length xs
     → noted_outcomes n (xs ++ ys) ≡ then_done (noted_outcomes n xs) (noted_outcomes m ys)
 noted_append n m [] ys good e = ap (λ (k : ℕ). noted_outcomes k ys) (omega (arith, e))
 noted_append n m (x ∷ xs) ys good e =
-    let both = neither (is_bad_count x) (has_bad_count xs) good in
+    let both = or_parts (is_bad_count x) (has_bad_count xs) good in
     noted_good n x (xs ++ ys) both.0
     ∙ ap (then_done (noted_outcome n x)) (noted_append (n + 1) m xs ys both.1 (omega (arith, e)))
     ∙ sym (then_assoc (noted_outcome n x) (noted_outcomes (n + 1) xs) (noted_outcomes m ys))
@@ -197,7 +193,7 @@ noted_append n m (x ∷ xs) ys good e =
 pub bad_append : (xs ys : List Outcome) → has_bad_count xs ≡ false → has_bad_count (xs ++ ys) ≡ has_bad_count ys
 bad_append [] ys good = refl
 bad_append (x ∷ xs) ys good =
-    let both = neither (is_bad_count x) (has_bad_count xs) good in
+    let both = or_parts (is_bad_count x) (has_bad_count xs) good in
     ap (λ (b : Bool). b || has_bad_count (xs ++ ys)) both.0 ∙ bad_append xs ys both.1
 
 pub one_of : (os : List Outcome) (i : ℕ) (d : Outcome) → i < length os → drop i os ≡ get_or os i d ∷ drop (i + 1) os

@@ -4,9 +4,8 @@ use Rattle.std.proofs.Common.{refl, sym, ap, subst, ◌∙◌, arith}
 use Rattle.std.specs.Prelude.{◌↔◌, Ok, Err}
 use Rattle.std.proofs.lemmas.List.{append-nil}
 use Rattle.octet_language.specs.Language.{Begins}
-use Rattle.syslog_frame.specs.Frames.{Frames, Whole, framed}
+use Rattle.syslog_frame.specs.Frames.{Frames, Whole}
 use Rattle.syslog_frame.specs.declared.framing.Framing.{Framing}
-use Rattle.syslog_frame.specs.declared.framing.Framing.TheVariants.{Counted, Lf}
 use Rattle.syslog_frame.specs.declared.limits.TheConstants.{FRAME_MAX}
 use Rattle.syslog_frame.proofs.Calls.{begins_reading, none_unless_frame, open_reading, reading_standing}
 use Rattle.syslog_frame.proofs.FrameLaws.{concatenation, unique_frames}
@@ -39,6 +38,7 @@ use Rattle.frame_engine.specs.declared.input_framing.InputFraming.TheVariants as
 use Rattle.frame_engine.specs.declared.line.Line.TheVariants.{Unterminated as Unfinished}
 use Rattle.archive_engine.specs.Archived.{AreFramesIn, IsReceivedIn}
 use Rattle.archive_engine.specs.Receiving.{LogsPiece, Receives, ReceivesDatagram, StopsAt, heard, opening}
+use Rattle.frame_engine.proofs.SessionLemmas.{nothing_begins}
 
 -- ---- what was heard
 
@@ -208,15 +208,11 @@ abbrev pub stop_done : Option ℕ → Done
 stop_done None = none_done
 stop_done (Some start) = noted_line (Unfinished start)
 
-begins_nothing : (kind : Framing) → Begins (Whole kind) []
-begins_nothing Counted = (framed Counted (0 ∷ []), (0 ∷ [], ((omega arith, omega arith), refl)))
-begins_nothing Lf = (framed Lf [], ([], (tt, refl)))
-
 -- no octets hold no bad count
 pub good_start : (kind : Framing) → ¬ (HoldsBadCount (opening kind []))
 good_start kind (frames, rest, at, bad) =
     let same = unique_frames kind [] [] frames [] rest (concatenation kind [] tt) bad.frames_are in
-    bad.none (subst (Begins (Whole kind)) same.1 (begins_nothing kind))
+    bad.none (subst (Begins (Whole kind)) same.1 (nothing_begins kind))
 
 begins_at : (cs : List Connection) (kind : Framing) (given : List ℕ) (handled : List (List (List ℕ)))
     → AreAt cs (opening kind given ∷ []) handled → AreQuiet cs → ¬ (HoldsBadCount (opening kind given))

@@ -29,13 +29,14 @@ use Rattle.frame_engine.specs.Sessions.{GoesOn}
 use Rattle.frame_engine.specs.Streams.{HasPart, ReportsEnd, StreamDone}
 use Rattle.frame_engine.specs.declared.input_framing.InputFraming.TheVariants as input
 use Rattle.frame_engine.specs.declared.line.Line.TheVariants as line
-use Rattle.frame_engine.proofs.HandlingLemmas.{or_false, same_done, then_assoc, then_nothing}
+use Rattle.frame_engine.proofs.HandlingLemmas.{same_done, then_assoc, then_nothing}
 use Rattle.archive_engine.specs.Archived.{ArchiveDone, IsReceivedIn, archive_handling}
 use Rattle.archive_engine.specs.Outcomes.{NotedSome, has_bad_count, noted_outcome, noted_outcomes}
 use Rattle.archive_engine.specs.Receiving.{LogsPiece, Receives, ReceivesDatagram, StopsAt, StreamStands, opening}
 use Rattle.archive_engine.proofs.OutcomeLemmas.{bad_outcomes, few_frames, few_outcomes, good_outcomes, handled_append}
 use Rattle.archive_engine.proofs.OutcomeLemmas.{marks_good, outcome_handled, reported_first}
 use Rattle.archive_engine.proofs.ReceiveLemmas.{begins_rest, good_start, holds_heard, stop_done, stop_reported}
+use Rattle.std.proofs.Math.Bool.{or-false}
 
 -- ---- the output of lines
 
@@ -64,7 +65,7 @@ end_only kind stream frames rest d (inr (inr (at, bad, e))) = ap (λ (x : Done).
 only_rest : (d : Done) (rest : List ℕ) → d.output ≡ []
     → with_rest d rest ≡ record { refused = d.refused; output = rest; diagnostics = d.diagnostics }
 only_rest d rest none = same_done (d.refused || false) d.refused (d.output ++ rest) rest (d.diagnostics ++ []) d.diagnostics
-    (or_false d.refused) (ap (λ (x : List ℕ). x ++ rest) none) (append-nil d.diagnostics)
+    (or-false d.refused) (ap (λ (x : List ℕ). x ++ rest) none) (append-nil d.diagnostics)
 
 -- what comes of a stream whose archive is written behind its lines
 stream_whole : (way : FrameReading) (kind : Framing) (stream : List ℕ) (kept : List Entry) (lines : Done)

@@ -3,17 +3,14 @@ use Rattle.std.proofs.Common.{◌≡◌, ◌∙◌, ℕ, zero, suc, Bool, true, 
 use Rattle.std.proofs.Common.{append_assoc, append-nil, true≢false}
 use Rattle.std.specs.Prelude.{◌⊎◌}
 use Rattle.std.specs.List.{AllByRecursion, AllZip}
-use Rattle.std.proofs.lemmas.List.{length-append}
 use Rattle.octet_devices.specs.Device.{InputState}
 use Rattle.archive_text.specs.Entries.{Entry, Has, IsAscending, IsBelow}
 use Rattle.archive_text.specs.Faults.{IsLongestArchive}
-use Rattle.archive_text.specs.Text.{IsArchive, entry_text, text_of}
+use Rattle.archive_text.specs.Text.{text_of}
 use Rattle.archive_text.specs.declared.limits.TheConstants.{ENTRY_MAX}
 use Rattle.archive_text.proofs.Ascending.{ascending_across}
 use Rattle.archive_text.proofs.Members.{has_either, has_left, has_right}
-use Rattle.archive_text.proofs.Orders.{below_transitive}
-use Rattle.archive_text.proofs.Prefixes.{archive_has_no_fault, longest_whole, one_longest}
-use Rattle.archive_text.proofs.Texts.{GoesOn, one_begins, text_length, text_some}
+use Rattle.archive_text.proofs.Prefixes.{archive_has_no_fault, longest_whole, one_longest, front_goes_on}
 use Rattle.archive_streams.specs.Entries.{current, IsBegun, IsCutShort, IsWhole}
 use Rattle.archive_streams.specs.Joining.{IsWithin}
 use Rattle.archive_streams.specs.Pieces.{HasFewLargeCalls}
@@ -24,33 +21,7 @@ use Rattle.archive_streams.proofs.EntrySteps.{begun}
 use Rattle.archive_join.specs.Heads.{Place}
 use Rattle.archive_join.specs.Inputs.{IsMetFirst, MayBeFront, MayBeFronts, ReachesAsFar, ReachesFarther}
 use Rattle.archive_join.specs.Sides.{AreFurther, AreIdle, GoBeyond, GoesBeyond, IsPlaced, Side}
-
--- the longest archive that octets begin with goes on behind each other one
-front_goes_on : (given r s : List ℕ) (xs fs : List Entry) → IsArchive ENTRY_MAX xs → given ≡ text_of xs ++ r
-    → IsLongestArchive ENTRY_MAX given fs s → (later : List Entry) × (fs ≡ xs ++ later)
-front_goes_on given r s xs fs a parts f =
-    placed (one_begins ENTRY_MAX ENTRY_MAX xs fs r s (omega arith) (omega arith) a f.archive (sym parts ∙ f.parts))
-  where
-    shorter : (gs : List Entry) → xs ≡ fs ++ gs → (later : List Entry) × (fs ≡ xs ++ later)
-    shorter [] same = ([], sym (append-nil fs) ∙ sym same ∙ sym (append-nil xs))
-    shorter (g ∷ gs) same =
-        absurd (omega (
-          arith,
-          f.longest xs r a parts,
-          ap (λ (l : List Entry). length (text_of l)) same,
-          text_length fs (g ∷ gs),
-          length-append (entry_text g) (text_of gs),
-          text_some g,
-        ))
-
-    placed : GoesOn xs r fs s ⊎ GoesOn fs s xs r → (later : List Entry) × (fs ≡ xs ++ later)
-    placed (inl (gs, same, more)) = (gs, same)
-    placed (inr (gs, same, more)) = shorter gs same
-
--- an entry within a list is below all that is above the list
-pub within_below : (es : List Entry) (w x : Entry) → IsWithin es w → ((m : Entry) → Has es m → IsBelow m x) → IsBelow w x
-within_below es w x (m, has, inl same) above = subst (λ (k : Entry). IsBelow k x) (sym same) (above m has)
-within_below es w x (m, has, inr less) above = below_transitive w m x less (above m has)
+use Rattle.archive_streams.proofs.Joining.{within_below}
 
 -- what was given of one input, and its fronts
 pub record IsFurther (due : Bool) (ws : List Entry) (d e : InputState) (ts : List Entry) : Type 0 where

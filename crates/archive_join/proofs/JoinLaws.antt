@@ -5,13 +5,12 @@ use Rattle.std.specs.List.{AllByRecursion}
 use Rattle.std.proofs.lemmas.Bool.{false≢true}
 use Rattle.std.proofs.lemmas.Bool.Decides.{not_from_Decides}
 use Rattle.std.proofs.lemmas.Grind.{flat_map-append}
-use Rattle.archive_text.specs.Entries.{Entry, Has, IsAscending, IsBelow, IsEntry}
+use Rattle.archive_text.specs.Entries.{Entry, Has, IsAscending, IsEntry}
 use Rattle.archive_text.specs.Text.{IsArchive}
 use Rattle.archive_text.proofs.Ascending.{same_members}
 use Rattle.archive_text.proofs.Members.{of_all, of_member}
-use Rattle.archive_text.proofs.Orders.{below_irreflexive, below_total, below_transitive}
 use Rattle.archive_streams.specs.Joining.{IsUnion, IsWithin}
-use Rattle.archive_streams.proofs.Joining.{AllBelow, initial}
+use Rattle.archive_streams.proofs.Joining.{AllBelow, initial, above_within, within_or_not}
 use Rattle.archive_sets.specs.Selections.{IsSelection}
 use Rattle.archive_join.specs.Holders.{AreKept, AreKeptUpTo, has_entry, holders, IsHeld, kept_text}
 use Rattle.archive_join.specs.Keeping.{DoAllHave, HasFirstAlone, HasOneOfTwo}
@@ -48,41 +47,6 @@ kept_archive keeps most xss ys all k = record {
   fits = of_all (λ (e : Entry). length e.octets ≤ most) ys
       (λ e h. held_in (λ (x : Entry). length x.octets ≤ most) xss e (all_fit most xss all) ((k.members e).0 h).0);
 }
-
--- an entry that is not within a list is above all of those that are
-above_within : (bound : List Entry) (e w : Entry) → ¬ (IsWithin bound e) → IsWithin bound w → IsBelow w e
-above_within bound e w out (m, has, below) = go (below_total e m)
-  where
-    up : IsBelow m e → (w ≡ m) ⊎ IsBelow w m → IsBelow w e
-    up more (inl same) = subst (λ (x : Entry). IsBelow x e) (sym same) more
-    up more (inr less) = below_transitive w m e less more
-
-    go : IsBelow e m ⊎ ((e ≡ m) ⊎ IsBelow m e) → IsBelow w e
-    go (inl less) = absurd (out (m, has, inr less))
-    go (inr (inl same)) = absurd (out (m, has, inl same))
-    go (inr (inr more)) = up more below
-
-within_or_not : (bound : List Entry) (e : Entry) → IsWithin bound e ⊎ ¬ (IsWithin bound e)
-within_or_not [] e = inr (λ w. w.1)
-within_or_not (m ∷ bound) e = go (below_total e m) (within_or_not bound e)
-  where
-    later : IsWithin bound e → IsWithin (m ∷ bound) e
-    later (k, has, below) = (k, inr has, below)
-
-    no : IsBelow m e → ¬ (IsWithin bound e) → ¬ (IsWithin (m ∷ bound) e)
-    no above out (k, inl same, below) = beyond (subst (λ (x : Entry). IsBelow x e) same above) below
-      where
-        beyond : IsBelow k e → ¬ ((e ≡ k) ⊎ IsBelow e k)
-        beyond over (inl is) = below_irreflexive k (subst (IsBelow k) is over)
-        beyond over (inr under) = below_irreflexive k (below_transitive k e k over under)
-    no above out (k, inr has, below) = out (k, has, below)
-
-    go : IsBelow e m ⊎ ((e ≡ m) ⊎ IsBelow m e) → IsWithin bound e ⊎ ¬ (IsWithin bound e)
-        → IsWithin (m ∷ bound) e ⊎ ¬ (IsWithin (m ∷ bound) e)
-    go (inl less) rest = inl (m, inl refl, inr less)
-    go (inr (inl same)) rest = inl (m, inl refl, inl same)
-    go (inr (inr more)) (inl within) = inl (later within)
-    go (inr (inr more)) (inr out) = inr (no more out)
 
 pub begins_alike : (keeps : List Bool → Type 0) (text : List Bool → Entry → List ℕ) (xss : List (List Entry))
     (bound ys zs : List Entry) → AreKeptUpTo keeps xss bound ys → AreKept keeps xss zs
@@ -132,16 +96,16 @@ one_union xss yss zs ws same k l = same_members zs ws k.ascending l.ascending
     (λ e h. (l.members e).1 ((same e).0 ((k.members e).0 h).0, tt))
     (λ e h. (k.members e).1 ((same e).1 ((l.members e).0 h).0, tt))
 
-held_left : (xss yss : List (List Entry)) (e : Entry) → IsHeld xss e → IsHeld (xss ++ yss) e
+pub held_left : (xss yss : List (List Entry)) (e : Entry) → IsHeld xss e → IsHeld (xss ++ yss) e
 held_left [] yss e h = absurd h
 held_left (xs ∷ xss) yss e (inl h) = inl h
 held_left (xs ∷ xss) yss e (inr h) = inr (held_left xss yss e h)
 
-held_right : (xss yss : List (List Entry)) (e : Entry) → IsHeld yss e → IsHeld (xss ++ yss) e
+pub held_right : (xss yss : List (List Entry)) (e : Entry) → IsHeld yss e → IsHeld (xss ++ yss) e
 held_right [] yss e h = h
 held_right (xs ∷ xss) yss e h = inr (held_right xss yss e h)
 
-held_either : (xss yss : List (List Entry)) (e : Entry) → IsHeld (xss ++ yss) e → IsHeld xss e ⊎ IsHeld yss e
+pub held_either : (xss yss : List (List Entry)) (e : Entry) → IsHeld (xss ++ yss) e → IsHeld xss e ⊎ IsHeld yss e
 held_either [] yss e h = inr h
 held_either (xs ∷ xss) yss e (inl h) = inl (inl h)
 held_either (xs ∷ xss) yss e (inr h) = elim (held_either xss yss e h) [ inl k ↦ inl (inr k) | inr k ↦ inr k ]

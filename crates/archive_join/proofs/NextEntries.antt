@@ -17,9 +17,9 @@ use Rattle.archive_streams.proofs.EntrySteps.{begun}
 use Rattle.archive_join.specs.Heads.{Fails, IsAt, Moves, Place, height, is_next}
 use Rattle.archive_join.specs.Holders.{is_same}
 use Rattle.archive_join.specs.declared.head.Head.{Head}
-use Rattle.archive_join.proofs.Fronts.{within_below}
 use Rattle.archive_join.proofs.Holders.{same_decides}
 use Rattle.archive_join.proofs.Lists.{parted}
+use Rattle.archive_streams.proofs.Joining.{within_below}
 
 -- ---- a head moves
 

@@ -1,8 +1,8 @@
 -- How often devices failed as archives were joined.
-use Rattle.std.specs.Prelude.{◌≡◌, ℕ, zero, suc, ◌^◌, ◌<◌, ◌⊎◌, List, [], ◌∷◌, map, Result, Err}
+use Rattle.std.specs.Prelude.{◌≡◌, ℕ, zero, suc, ◌^◌, ◌<◌, ◌⊎◌, List, [], ◌∷◌, map, Result, Err, IsErrOf}
 use Rattle.octet_devices.specs.Device.{InputState, OutputState, count_on}
 use Rattle.archive_join.specs.declared.fault.JoinFault.{JoinFault}
-use Rattle.archive_join.specs.declared.fault.JoinFault.TheVariants.{Read, Write}
+use Rattle.archive_join.specs.declared.fault.JoinFault.TheVariants.{Memory, Read, Write}
 
 -- how often each reader failed
 abbrev pub failures_of : List InputState → List ℕ
@@ -35,3 +35,15 @@ ReadFailed r old new = new ≡ old
 pub record TellsFailures {X : Type 0} (r : Result X JoinFault) (ds es : List InputState) (a b : OutputState) : Type 0 where
   pub readers : ReadFailed r (failures_of ds) (failures_of es)
   pub writer : WriteFailures r a.failures b.failures
+
+-- the fault is one of an input: a reader's that failed, or that of an archive
+pub record IsOfInputs {X : Type 0} (r : Result X JoinFault) (ds es : List InputState) : Type 0 where
+  pub told : ReadFailures r (failures_of ds) (failures_of es)
+  pub not_writer : (n : ℕ) → WriteFailures r n n
+  pub not_memory : ¬ (IsErrOf r Memory)
+
+-- the fault is one of a device that failed, or that of an archive
+pub record IsOfDevices {X : Type 0} (r : Result X JoinFault) (ds es : List InputState) (a b : OutputState) : Type 0 where
+  pub read : ReadFailures r (failures_of ds) (failures_of es)
+  pub written : WriteFailures r a.failures b.failures
+  pub not_memory : ¬ (IsErrOf r Memory)

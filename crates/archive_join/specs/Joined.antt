@@ -1,5 +1,5 @@
 -- What a call that joins archives did.
-use Rattle.std.specs.Prelude.{◌≡◌, ℕ, Bool, List, Option, length}
+use Rattle.std.specs.Prelude.{◌≡◌, ℕ, Bool, List, Option, length, MatchResult, Result}
 use Rattle.std.specs.Io.KnownBytes.{Appends}
 use Rattle.octet_devices.specs.Device.{InputState}
 use Rattle.octet_devices.specs.Held.{StopsWithin, counted}
@@ -59,3 +59,10 @@ abbrev pub Stopped : (List Bool → Type 0) → (List Bool → Entry → List �
     → List InputState → Option (List ℕ) → Option (List ℕ) → Type 0
 Stopped keeps text fault ds es taken_old taken_new =
     StopsUpTo keeps text fault ds es (IsWrittenAt fault taken_old taken_new)
+
+-- all archives whole, and what is kept of their entries; or what a fault says of what was read and written
+abbrev pub JoinedOrStopped : (List Bool → Type 0) → (List Bool → Entry → List ℕ) → Result ℕ JoinFault
+    → List InputState → List InputState → Option (List ℕ) → Option (List ℕ) → Type 0
+JoinedOrStopped keeps text r ds es taken_old taken_new =
+    MatchResult r (λ n. Joined keeps text ds es taken_old taken_new n)
+    (λ fault. Stopped keeps text fault ds es taken_old taken_new)

@@ -1,5 +1,5 @@
 -- Archives on their way into one, by what is kept of their entries.
-use Rattle.std.specs.Prelude.{◌≡◌, ◌↔◌, ℕ, Bool, true, List, [], map, Option, length}
+use Rattle.std.specs.Prelude.{◌≡◌, ◌↔◌, ℕ, Bool, true, List, [], map, Option, length, Result, IfErr, OnOk}
 use Rattle.std.specs.List.{AllByRecursion}
 use Rattle.octet_devices.specs.Device.{InputState}
 use Rattle.octet_devices.specs.Held.{Carries, Held, StopsWithin, counted}
@@ -9,7 +9,7 @@ use Rattle.archive_sets.specs.Selections.{IsSelection}
 use Rattle.archive_join.specs.Heads.{IsAt, IsNew, is_next}
 use Rattle.archive_join.specs.Holders.{holders, IsHeld, kept_text}
 use Rattle.archive_join.specs.Joined.{StopsUpTo}
-use Rattle.archive_join.specs.Sides.{AreIdle, Standing}
+use Rattle.archive_join.specs.Sides.{AdvanceHalts, Advances, AreIdle, Standing}
 use Rattle.archive_join.specs.declared.fault.JoinFault.{JoinFault}
 use Rattle.archive_join.specs.declared.fault.JoinFault.TheVariants.{Write}
 use Rattle.archive_join.specs.declared.head.Head.{Head}
@@ -26,6 +26,11 @@ pub record IsFresh (j : Join) : Type 0 where
 pub record KeepsOutput (j k : Join) : Type 0 where
   pub held : k.held ≡ j.held
   pub count : k.count ≡ j.count
+
+-- the archives whose next entries were due have them, or a fault of one of them was met
+pub record AdvancesOrHalts {X : Type 0} (r : Result X JoinFault) (j k : Join) (es fs : List InputState) : Type 0 where
+  pub on : OnOk r (Advances j.heads.items j.holders.items k.heads.items k.holders.items es fs)
+  pub halts : IfErr r (λ fault. AdvanceHalts fault j.heads.items j.holders.items es fs)
 
 -- the ascending list of what some list has
 pub record IsUnionOf (xss : List (List Entry)) (ws : List Entry) : Type 0 where

@@ -2,7 +2,7 @@
 
 ghost use Rattle.std.specs.Prelude.{◌≡◌, List, IsErrOf, MatchResult, map};
 ghost use Rattle.archive_join.specs.Failures.{TellsFailures};
-ghost use Rattle.archive_join.specs.Joined.{Joined, Stopped};
+ghost use Rattle.archive_join.specs.Joined.{Joined, JoinedOrStopped, Stopped};
 
 use crate::fault::JoinFault;
 use crate::heads::Least;
@@ -13,7 +13,7 @@ use std::alloc::Global;
 
 impl Join {
     ghost use Rattle.std.specs.Prelude.{◌<◌, length, vec_len, IfErr, OnOk};
-    ghost use Rattle.archive_join.specs.Failures.{ReadFailures, WriteFailures, failures_of};
+    ghost use Rattle.archive_join.specs.Failures.{IsOfDevices};
     ghost use Rattle.archive_join.specs.Heads.{AreClosed, IsFound, total};
     ghost use Rattle.archive_join.specs.Joining.{Halted, IsFresh, Joining, TurnHalts, Turns};
     ghost use Rattle.archive_join.specs.Sides.{AreIdle};
@@ -38,11 +38,8 @@ impl Join {
         ensures halts { IfErr result (λ fault. TurnHalts (K.keeps kept.now) (K.text kept.now) fault
             self.old self.new (map R.state inputs.old) (map R.state inputs.new)
             (W.state writer.old).taken (W.state writer.new).taken) }
-        ensures read { ReadFailures result (failures_of (map R.state inputs.old))
-            (failures_of (map R.state inputs.new)) }
-        ensures written { WriteFailures result (W.state writer.old).failures
-            (W.state writer.new).failures }
-        ensures not_memory { ¬ (IsErrOf result JoinFault.Memory) }
+        ensures devices { IsOfDevices result (map R.state inputs.old) (map R.state inputs.new)
+            (W.state writer.old) (W.state writer.new) }
     {
         self.note(least);
         self.take(kept, least.at, writer)?;
@@ -65,11 +62,8 @@ impl Join {
         ensures halted { IfErr result (λ fault. Halted (K.keeps kept.now) (K.text kept.now) fault
             self.new.held (map R.state inputs.old) (map R.state inputs.new)
             (W.state writer.old).taken (W.state writer.new).taken) }
-        ensures read { ReadFailures result (failures_of (map R.state inputs.old))
-            (failures_of (map R.state inputs.new)) }
-        ensures written { WriteFailures result (W.state writer.old).failures
-            (W.state writer.new).failures }
-        ensures not_memory { ¬ (IsErrOf result JoinFault.Memory) }
+        ensures devices { IsOfDevices result (map R.state inputs.old) (map R.state inputs.new)
+            (W.state writer.old) (W.state writer.new) }
     {
         self.advance(inputs)?;
         'entries: while let Some(least) = self.least() {
@@ -87,13 +81,9 @@ impl Join {
     ) -> Result<u64, JoinFault>
         requires inputs { length inputs.old ≡ vec_len self.old.heads }
         requires fresh { IsFresh self.old }
-        ensures outcome { MatchResult result
-            (λ n. Joined (K.keeps kept.now) (K.text kept.now)
+        ensures outcome { JoinedOrStopped (K.keeps kept.now) (K.text kept.now) result
             (map R.state inputs.old) (map R.state inputs.new)
-            (W.state writer.old).taken (W.state writer.new).taken n)
-            (λ fault. Stopped (K.keeps kept.now) (K.text kept.now) fault
-            (map R.state inputs.old) (map R.state inputs.new)
-            (W.state writer.old).taken (W.state writer.new).taken) }
+            (W.state writer.old).taken (W.state writer.new).taken }
         ensures told { TellsFailures result (map R.state inputs.old) (map R.state inputs.new)
             (W.state writer.old) (W.state writer.new) }
         ensures not_memory { ¬ (IsErrOf result JoinFault.Memory) }

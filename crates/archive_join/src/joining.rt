@@ -42,10 +42,11 @@ fn fault_of(input: usize, fault: EntriesFault) -> JoinFault
 impl Join {
     ghost use Rattle.std.specs.Prelude.{◌<◌, ℕ, List, false, length, slice_set, take};
     ghost use Rattle.std.specs.Prelude.{IfErr, IfOk, IsErrOf, MatchOption, OnOk};
-    ghost use Rattle.archive_join.specs.Failures.{ReadFailures, WriteFailures, failures_of};
+    ghost use Rattle.archive_join.specs.Failures.{IsOfInputs, ReadFailures, WriteFailures};
     ghost use Rattle.archive_join.specs.Heads.{AreClosed, IsFound, IsLeast, total};
-    ghost use Rattle.archive_join.specs.Joining.{AreHolders, IsFresh, KeepsOutput, TakeHalts, Takes};
-    ghost use Rattle.archive_join.specs.Sides.{AdvanceHalts, Advances, AreIdle, Nears, NearsAt};
+    ghost use Rattle.archive_join.specs.Joining.{AdvancesOrHalts, AreHolders, IsFresh, KeepsOutput};
+    ghost use Rattle.archive_join.specs.Joining.{TakeHalts, Takes};
+    ghost use Rattle.archive_join.specs.Sides.{AreIdle, Nears, NearsAt};
 
     /// As many archives as `size` says, before their first entries. Room for all of them is
     /// reserved; it fails only when out of memory.
@@ -148,18 +149,11 @@ impl Join {
         ensures output { KeepsOutput self.old self.new }
         ensures holders { OnOk result (self.new.holders.items
             ≡ slice_set self.old.holders.items at false) }
-        ensures advances { OnOk result (Advances self.old.heads.items self.old.holders.items
-            self.new.heads.items self.new.holders.items
-            (map R.state inputs.old) (map R.state inputs.new)) }
+        ensures advances { AdvancesOrHalts result self.old self.new
+            (map R.state inputs.old) (map R.state inputs.new) }
         ensures nears { OnOk result (NearsAt self.old.heads.items self.old.holders.items
             self.new.heads.items at) }
-        ensures halts { IfErr result (λ fault. AdvanceHalts fault
-            self.old.heads.items self.old.holders.items
-            (map R.state inputs.old) (map R.state inputs.new)) }
-        ensures told { ReadFailures result (failures_of (map R.state inputs.old))
-            (failures_of (map R.state inputs.new)) }
-        ensures not_writer { (n : ℕ) → WriteFailures result n n }
-        ensures not_memory { ¬ (IsErrOf result JoinFault.Memory) }
+        ensures reads { IsOfInputs result (map R.state inputs.old) (map R.state inputs.new) }
     {
         if !self.holders[at] {
             return Ok(());
@@ -182,18 +176,11 @@ impl Join {
         ensures size { vec_len self.new.heads ≡ vec_len self.old.heads }
         ensures output { KeepsOutput self.old self.new }
         ensures idle { OnOk result (AreIdle self.new.holders.items) }
-        ensures advances { OnOk result (Advances self.old.heads.items self.old.holders.items
-            self.new.heads.items self.new.holders.items
-            (map R.state inputs.old) (map R.state inputs.new)) }
+        ensures advances { AdvancesOrHalts result self.old self.new
+            (map R.state inputs.old) (map R.state inputs.new) }
         ensures nears { OnOk result (Nears self.old.heads.items self.old.holders.items
             self.new.heads.items) }
-        ensures halts { IfErr result (λ fault. AdvanceHalts fault
-            self.old.heads.items self.old.holders.items
-            (map R.state inputs.old) (map R.state inputs.new)) }
-        ensures told { ReadFailures result (failures_of (map R.state inputs.old))
-            (failures_of (map R.state inputs.new)) }
-        ensures not_writer { (n : ℕ) → WriteFailures result n n }
-        ensures not_memory { ¬ (IsErrOf result JoinFault.Memory) }
+        ensures reads { IsOfInputs result (map R.state inputs.old) (map R.state inputs.new) }
     {
         'heads: for at in 0..self.heads.len() {
             self.advance_at(at, inputs)?;
@@ -214,17 +201,10 @@ impl Join {
         ensures size { vec_len self.new.heads ≡ vec_len self.old.heads }
         ensures output { KeepsOutput self.old self.new }
         ensures idle { OnOk result (AreIdle self.new.holders.items) }
-        ensures advances { OnOk result (Advances self.old.heads.items self.old.holders.items
-            self.new.heads.items self.new.holders.items
-            (map R.state inputs.old) (map R.state inputs.new)) }
+        ensures advances { AdvancesOrHalts result self.old self.new
+            (map R.state inputs.old) (map R.state inputs.new) }
         ensures nears { OnOk result (total self.new.heads.items < total self.old.heads.items) }
-        ensures halts { IfErr result (λ fault. AdvanceHalts fault
-            self.old.heads.items self.old.holders.items
-            (map R.state inputs.old) (map R.state inputs.new)) }
-        ensures told { ReadFailures result (failures_of (map R.state inputs.old))
-            (failures_of (map R.state inputs.new)) }
-        ensures not_writer { (n : ℕ) → WriteFailures result n n }
-        ensures not_memory { ¬ (IsErrOf result JoinFault.Memory) }
+        ensures reads { IsOfInputs result (map R.state inputs.old) (map R.state inputs.new) }
     {
         if least.shared {
             return self.advance(inputs);

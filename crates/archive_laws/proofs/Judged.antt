@@ -1,5 +1,5 @@
 -- What was read of a text, entry by entry.
-use Rattle.std.proofs.Common.{◌≡◌, ◌≢◌, ℕ, ◌+◌, ◌-◌, ◌<◌, ◌≤◌, inl, inr, refl, sym, ◌∙◌, ap, subst, arith, List, []}
+use Rattle.std.proofs.Common.{◌≡◌, ◌≢◌, ℕ, ◌+◌, ◌-◌, ◌<◌, ◌≤◌, refl, sym, ◌∙◌, ap, subst, arith, List, []}
 use Rattle.std.proofs.Common.{◌∷◌, ◌++◌, length}
 use Rattle.std.specs.Prelude.{ℤ, Option, Some, None}
 use Rattle.std.specs.declared.cmp.Ordering.{Ordering}
@@ -9,16 +9,15 @@ use Rattle.syslog_frame.specs.declared.limits.TheConstants.{COUNT_MAX}
 use Rattle.syslog_value.specs.Parts.{Parts}
 use Rattle.archive_text.specs.Entries.{Entry, IsAscending, IsOrder}
 use Rattle.archive_text.specs.EntryViews.{entry_of}
-use Rattle.archive_text.specs.Faults.{IsArchiveFault, IsBadFrame, IsFaultBefore, IsFaultBehind}
-use Rattle.archive_text.specs.Positions.{later, position_of}
+use Rattle.archive_text.specs.Faults.{IsArchiveFault, IsFaultBefore}
+use Rattle.archive_text.specs.Positions.{later}
 use Rattle.archive_text.specs.Sets.{ArchiveText}
 use Rattle.archive_text.specs.Text.{BeginsWithEntry, entry_text, text_of}
 use Rattle.archive_text.specs.declared.entry.EntryView.{EntryView}
 use Rattle.archive_text.specs.declared.fault.ArchiveFault.{ArchiveFault}
-use Rattle.archive_text.specs.declared.fault.ArchiveFault.TheVariants.{BadFrame, EntryTooLong, BadEntry, NotCanonical}
 use Rattle.archive_text.specs.declared.fault.ArchiveFault.TheVariants.{NotAscending}
 use Rattle.archive_text.proofs.Ascending.{archive_from, archive_nil, ascending_after, not_after}
-use Rattle.archive_text.proofs.FaultLaws.{begins_with_octets}
+use Rattle.archive_text.proofs.FaultLaws.{begins_with_octets, fault_behind}
 use Rattle.archive_text.proofs.Prefixes.{archive_fault}
 use Rattle.archive_text.proofs.Orders.{below_is_less, less_is_below}
 use Rattle.archive_text.proofs.Sets.{archive_is_of_a_set}
@@ -45,30 +44,9 @@ other_does_not es v e o (fs, last) ascending h differ also =
 
 -- ---- positions
 
-bad_within : (most n : ℕ) (rest : List ℕ) → IsBadFrame most rest n → n ≤ length rest
-bad_within most n rest (inl (none, offset)) = offset.within
-bad_within most n rest (inr (count, behind, follows, low, cut, at)) = omega (arith, at)
-
--- a fault of what is left lies in it
-pub position_within : (most : ℕ) (rest : List ℕ) (fault : ArchiveFault) → IsFaultBefore most rest fault
-    → position_of fault ≤ length rest
-position_within most rest (BadFrame at) h = bad_within most at rest h
-position_within most rest (EntryTooLong at) h = omega (arith, h.0)
-position_within most rest (BadEntry at fault) h = omega (arith, h.0)
-position_within most rest (NotCanonical at) h = omega (arith, h.0)
-position_within most rest (NotAscending at) h = absurd h
-
 pub read_length : (most : ℕ) (text rest : List ℕ) (last : Option EntryView) → (h : IsRead most text rest last)
     → length text ≡ length (text_of h.entries) + length rest
 read_length most text rest last h = ap length h.parts ∙ length-append (text_of h.entries) rest
-
-fault_at : (most at : ℕ) (es : List Entry) (rest : List ℕ) (fault : ArchiveFault) → at ≡ length (text_of es)
-    → IsFaultBefore most rest fault → IsFaultBehind most es rest (later at fault)
-fault_at most at es rest (BadFrame n) is h = (n, h, ap (λ k. k + n) is)
-fault_at most at es rest (EntryTooLong n) is h = (omega (arith, is, h.0), h.1)
-fault_at most at es rest (BadEntry n fault) is h = (omega (arith, is, h.0), (refl, h.1))
-fault_at most at es rest (NotCanonical n) is h = (omega (arith, is, h.0), (refl, h.1))
-fault_at most at es rest (NotAscending n) is h = absurd h
 
 -- ---- one entry more
 
@@ -95,7 +73,7 @@ pub read_fault : (most at : ℕ) (text rest : List ℕ) (last : Option EntryView
     → IsRead most text rest last → IsFaultBefore most rest fault → IsArchiveFault most text (later at fault)
 read_fault most at text rest last fault low is some h bad =
     archive_fault most text h.entries rest (later at fault) low h.archive h.parts some
-    (fault_at most at h.entries rest fault (omega (arith, is, read_length most text rest last h)) bad)
+    (fault_behind most at h.entries rest fault (omega (arith, is, read_length most text rest last h)) bad)
 
 pub read_not_above : (most at : ℕ) (text rest behind : List ℕ) (last : Option EntryView) (e : Entry) → most ≤ COUNT_MAX
     → at ≡ length text - length rest → 0 < length rest

@@ -23,9 +23,10 @@ use Rattle.archive_migration.specs.OldEntries.{IsOldArchive, IsOldEntry, IsOldEn
 use Rattle.archive_migration.specs.OldFaults.{IsOldArchiveFault}
 use Rattle.archive_migration.specs.OldTexts.{AreOldEntriesOf, OldText}
 use Rattle.archive_migration.proofs.NewOctets.{new_octets}
-use Rattle.archive_migration.proofs.OldForms.{entry_old_entry, same_old_record, same_record}
+use Rattle.archive_migration.proofs.OldForms.{entry_old_entry, same_old_record}
 use Rattle.archive_migration.proofs.OldPrefixes.{old_archive_has_no_fault}
 use Rattle.archive_migration.proofs.OldTexts.{same_old_text}
+use Rattle.syslog_value.specs.EqualityLaws.{same_record}
 
 -- ---- new forms
 

@@ -1,8 +1,8 @@
 -- Records whose elements are in any order, and their new forms.
 use Rattle.std.proofs.Common.{◌≡◌, ℕ, ◌∙◌, refl, sym, subst, List}
-use Rattle.std.specs.Prelude.{ℤ, Option}
+use Rattle.std.specs.Prelude.{ℤ}
 use Rattle.std.specs.List.Sorted.{IsPermutation}
-use Rattle.syslog_value.specs.Parts.{ElementParts, IsRecord, MessageParts, Parts}
+use Rattle.syslog_value.specs.Parts.{IsRecord, Parts}
 use Rattle.syslog_fields.specs.Canonical.{Canonical}
 use Rattle.syslog_grammar.specs.Unsorted.{IsUnsortedRecord}
 use Rattle.syslog_reading.specs.ViewParts.{IsViewOf, ViewParts}
@@ -14,31 +14,7 @@ use Rattle.archive_text.specs.Entries.{Entry, IsEntryOf}
 use Rattle.archive_text.proofs.Orders.{same_entry}
 use Rattle.archive_migration.specs.Migration.{IsNewForm}
 use Rattle.archive_migration.specs.OldEntries.{IsOldEntry, IsOldEntryOf}
-
--- ---- records
-
-abbrev parts_of : ℕ → Option ℤ → Option (List ℕ) → Option (List ℕ) → Option (List ℕ) → Option (List ℕ)
-    → List ElementParts → MessageParts → Parts ℤ
-parts_of p t h a c m e x = record {
-  priority = p;
-  time = t;
-  hostname = h;
-  app_name = a;
-  proc_id = c;
-  msg_id =
-      m;
-  elements = e;
-  message = x;
-}
-
-pub same_record : (r q : Parts ℤ) → r.priority ≡ q.priority → r.time ≡ q.time → r.hostname ≡ q.hostname
-    → r.app_name ≡ q.app_name → r.proc_id ≡ q.proc_id → r.msg_id ≡ q.msg_id
-    → r.elements ≡ q.elements → r.message ≡ q.message → r ≡ q
-same_record r q priority time hostname app_name proc_id msg_id elements message =
-    let same : parts_of r.priority r.time r.hostname r.app_name r.proc_id r.msg_id r.elements r.message
-    ≡ parts_of q.priority q.time q.hostname q.app_name q.proc_id q.msg_id q.elements q.message =
-    rw (priority, time, hostname, app_name, proc_id, msg_id, elements, message) refl in
-    same
+use Rattle.syslog_value.specs.EqualityLaws.{same_record}
 
 -- ---- the new form is what the octets are
 

@@ -1,22 +1,21 @@
 -- The texts of old entries, of which one begins a text at most.
-use Rattle.std.proofs.Common.{◌≡◌, ℕ, ◌<◌, ◌≤◌, ◌∙◌, inl, inr, refl, sym, ap, arith, List, [], ◌∷◌, ◌++◌, length}
+use Rattle.std.proofs.Common.{◌≡◌, ℕ, ◌≤◌, ◌∙◌, inl, inr, refl, sym, ap, arith, List, [], ◌∷◌, ◌++◌, length}
 use Rattle.std.proofs.Common.{append_assoc}
-use Rattle.std.specs.Prelude.{ℤ, ◌⊎◌}
-use Rattle.std.proofs.lemmas.List.{append_cancel_left, append-nil, length-append}
+use Rattle.std.specs.Prelude.{◌⊎◌}
+use Rattle.std.proofs.lemmas.List.{append_cancel_left}
 use Rattle.syslog_frame.specs.Frames.{CanCarry}
 use Rattle.syslog_frame.specs.declared.framing.Framing.TheVariants.{Counted}
 use Rattle.syslog_frame.specs.declared.limits.TheConstants.{COUNT_MAX}
 use Rattle.syslog_frame.proofs.FrameLaws.{one_frame}
-use Rattle.syslog_value.specs.Parts.{Parts}
-use Rattle.syslog_fields.specs.Canonical.{Canonical, HeaderForm}
 use Rattle.archive_text.specs.Entries.{Entry, IsAscending}
 use Rattle.archive_text.specs.Text.{entry_text, text_of}
 use Rattle.archive_text.proofs.Ascending.{ascending_right}
 use Rattle.archive_text.proofs.Members.{all_append, all_right}
-use Rattle.archive_text.proofs.Texts.{GoesOn, no_text}
+use Rattle.archive_text.proofs.Texts.{GoesOn, goes_on_behind, none_behind}
 use Rattle.archive_migration.specs.OldEntries.{IsOldArchive, IsOldEntry}
 use Rattle.archive_migration.specs.OldTexts.{BeginsWithOldEntry}
 use Rattle.archive_migration.proofs.OldForms.{same_old_octets}
+use Rattle.syslog_fields.proofs.CanonicalTexts.{canonical_some}
 
 -- ---- old archives
 
@@ -38,12 +37,6 @@ old_archive_from most es e h entry fits ascending = record {
   entries = all_append IsOldEntry es (e ∷ []) h.entries (entry, tt);
   fits = all_append (λ x. length x.octets ≤ most) es (e ∷ []) h.fits (fits, tt);
 }
-
--- canonical octets are never none
-canonical_some : (r : Parts ℤ) (b : List ℕ) → Canonical r b → 0 < length b
-unfolding HeaderForm
-canonical_some r b (x, y, e, (u, v, f, g, h), k) =
-    omega (arith, ap length e, length-append x y, ap length f, length-append u v, ap length g)
 
 -- a count can number the octets of an old entry
 old_entry_carries : (most : ℕ) (e : Entry) → most ≤ COUNT_MAX → IsOldEntry e → length e.octets ≤ most
@@ -73,10 +66,6 @@ first_of_old_text most text e es rest low h is = record {
 
 -- ---- two lists whose texts begin one text
 
-goes_on_behind : (e f : Entry) (es fs : List Entry) (r s : List ℕ) → e ≡ f → GoesOn es r fs s
-    → GoesOn (e ∷ es) r (f ∷ fs) s
-goes_on_behind e f es fs r s same (gs, h, k) = (gs, ap (λ x. x ∷ fs) (sym same) ∙ ap (λ xs. e ∷ xs) h, k)
-
 -- one of them begins the other
 pub one_old_begins : (most more : ℕ) (es fs : List Entry) (r s : List ℕ) → most ≤ COUNT_MAX → more ≤ COUNT_MAX
     → IsOldArchive most es → IsOldArchive more fs
@@ -93,9 +82,6 @@ one_old_begins most more (e ∷ es) (f ∷ fs) r s low small h k same =
       | inl later ↦ inl (goes_on_behind e f es fs r s both.0 later)
       | inr later ↦ inr (goes_on_behind f e fs es s r (sym both.0) later)
     ]
-
-none_behind : (es fs : List Entry) → GoesOn es [] fs [] → es ≡ fs
-none_behind es fs (gs, h, k) = sym (h ∙ ap (λ (xs : List Entry). es ++ xs) (no_text gs [] k) ∙ append-nil es)
 
 -- one text is that of one archive
 pub same_old_text : (most more : ℕ) (es fs : List Entry) → most ≤ COUNT_MAX → more ≤ COUNT_MAX → IsOldArchive most es

@@ -31,6 +31,7 @@ use Rattle.archive_migration.specs.Reading.{IsAboveLast, IsFaultAfter, IsLast}
 use Rattle.archive_migration.proofs.OldForms.{new_form_well_formed, well_formed_new_form}
 use Rattle.archive_migration.proofs.OldPrefixes.{old_archive_fault}
 use Rattle.archive_migration.proofs.OldTexts.{old_archive_from}
+use Rattle.archive_text.specs.Faults.{IsCountFault}
 
 -- ---- faults at their positions
 
@@ -43,6 +44,15 @@ position_within most rest (EntryTooLong at) (is, h) = omega (arith, is)
 position_within most rest (BadEntry at fault) (is, h) = omega (arith, is)
 position_within most rest (NotCanonical at) (is, h) = omega (arith, is)
 position_within most rest (NotAscending at) h = absurd h
+
+-- where no counted octets come first, no old entry does
+pub old_count_fault : (most : ℕ) (text : List ℕ) (fault : ArchiveFault) → IsCountFault most text fault
+    → IsOldFaultBefore most text fault
+old_count_fault most text (BadFrame at) h = h
+old_count_fault most text (EntryTooLong at) h = h
+old_count_fault most text (BadEntry at fault) h = absurd h
+old_count_fault most text (NotCanonical at) h = absurd h
+old_count_fault most text (NotAscending at) h = absurd h
 
 -- counted from the start of the text of the entries before it
 pub fault_after : (last : Option EntryView) (offset : ℕ) (rest : List ℕ) (fault : ArchiveFault)

@@ -6,8 +6,7 @@ ghost use Rattle.archive_migration.specs.OldFaults.{IsOldEntryFault, IsOldFaultB
 ghost use Rattle.archive_migration.specs.OldTexts.{BeginsWithOldEntry};
 ghost use Rattle.archive_migration.specs.Reading.{ShowsIt, old_entry_of};
 
-use archive_text::{ArchiveFault, EntryFault, EntryView};
-use syslog_frame::{MsgLen, msg_len};
+use archive_text::{ArchiveFault, EntryFault, EntryView, counted_octets};
 use syslog_grammar::{RecordView, is_canon_unsorted, view};
 
 /// An entry of an old archive, as it lies in octets.
@@ -49,23 +48,7 @@ pub fn read_old_entry(most: u64, text: &[u8]) -> Result<(OldEntry<'_>, &[u8]), A
         (IsOldFaultBefore most text.now) }
     ensures view { IfOk result (λ x. ShowsIt x.0) }
 {
-    let (count, used) = match msg_len(text) {
-        MsgLen::Whole { count, used } => (count, used),
-        MsgLen::Part => return Err(ArchiveFault::BadFrame {
-            at: text.len() as u64,
-        }),
-        MsgLen::Bad { at } => return Err(ArchiveFault::BadFrame { at: at as u64 }),
-    };
-    if count > most {
-        return Err(ArchiveFault::EntryTooLong { at: 0 });
-    }
-    let (_, behind) = text.split_at(used);
-    if count > behind.len() as u64 {
-        return Err(ArchiveFault::BadFrame {
-            at: text.len() as u64,
-        });
-    }
-    let (octets, rest) = behind.split_at(count as usize);
+    let (octets, rest) = counted_octets(most, text)?;
     match old_entry_of_octets(octets) {
         Ok(entry) => Ok((entry, rest)),
         Err(EntryFault::Bad(fault)) => Err(ArchiveFault::BadEntry { at: 0, fault }),

@@ -1,22 +1,17 @@
 -- The entry of a record that is added.
-use Rattle.std.proofs.Common.{◌≡◌, ℕ, ◌<◌, List, length, sym, ◌∙◌, subst}
+use Rattle.std.proofs.Common.{ℕ, ◌<◌, List, length, subst}
 use Rattle.std.specs.Prelude.{ℤ, ◌↔◌, IsTrue, Bool}
 use Rattle.syslog_value.specs.Parts.{Parts}
 use Rattle.syslog_fields.specs.Canonical.{Canonical}
 use Rattle.syslog_grammar.proofs.CanonicalParses.{canonical_once}
 use Rattle.archive_text.specs.Entries.{Entry, Has, IsEntryOf}
 use Rattle.archive_text.specs.declared.limits.TheConstants.{ENTRY_MAX}
-use Rattle.archive_text.proofs.Orders.{same_entry}
-
--- a record has one entry
-pub one_entry : (r : Parts ℤ) (a b : Entry) → IsEntryOf r a → IsEntryOf r b → a ≡ b
-one_entry r a b h k = same_entry a b (h.instant ∙ sym k.instant)
-    (canonical_once r a.octets b.octets h.canonical k.canonical)
+use Rattle.archive_text.proofs.Texts.{one_entry_of}
 
 -- whether it is held
 pub held_alike : (r : Parts ℤ) (es : List Entry) (a : Entry) (held : Bool) → IsEntryOf r a → IsTrue held ↔ Has es a
     → (e : Entry) → IsEntryOf r e → IsTrue held ↔ Has es e
-held_alike r es a held h same e k = subst (λ (x : Entry). IsTrue held ↔ Has es x) (one_entry r a e h k) same
+held_alike r es a held h same e k = subst (λ (x : Entry). IsTrue held ↔ Has es x) (one_entry_of r a e h k) same
 
 pub too_long : (r : Parts ℤ) (octets : List ℕ) → Canonical r octets → ENTRY_MAX < length octets → (e : Entry)
     → IsEntryOf r e → ENTRY_MAX < length e.octets

@@ -6,7 +6,6 @@ use Rattle.std.specs.declared.alloc.Global.{Global}
 use Rattle.std.specs.List.{AllByRecursion}
 use Rattle.std.proofs.lemmas.Fmt.{length-decimal-le}
 use Rattle.std.proofs.lemmas.List.{map-append, take_all, take_more}
-use Rattle.std.proofs.lemmas.List.Concat.{flat_map-append}
 use Rattle.octet_devices.specs.Device.{OutputState}
 use Rattle.octet_devices.specs.Held.{HasPut, Held, PutFailed}
 use Rattle.octet_devices.proofs.Putting.{has_put_then, put_fails_before, put_fails_then}
@@ -21,16 +20,13 @@ use Rattle.archive_pages.specs.declared.arena.Span.{Span}
 use Rattle.archive_pages.proofs.PageLists.{count_is, joined-append, joined_from, page_is}
 use Rattle.archive_pages.proofs.Searching.{page_all}
 use Rattle.archive_pages.proofs.Adding.{count_of}
+use Rattle.archive_text.proofs.Texts.{text_append}
 
 -- the whole text, of which a prefix was put
 fails_longer : (a b : OutputState) (h : Held) (xs ys all : List ℕ) (sent : ℕ) → xs ++ ys ≡ all
     → PutFailed a b h xs sent → PutFailed a b h all sent
 fails_longer a b h xs ys all sent e f =
     subst (λ (t : List ℕ). PutFailed a b h t sent) e (put_fails_before a b h xs ys sent f)
-
--- the text of two lists of entries
-pub text-append : (a b : List Entry) → text_of (a ++ b) ≡ text_of a ++ text_of b
-text-append a b = flat_map-append entry_text a b
 
 -- one more entry of a page
 pub text_more : (blocks : List (List ℕ)) (p : List Span) (k : ℕ) (s : Span) → k < length p → s ≡ slice_index_or p k s
@@ -40,14 +36,14 @@ text_more blocks p k s h read =
     ap (λ (q : List Span). text_of (entries_at blocks q))
     (take_more p k s h ∙ ap (λ (x : Span). take k p ++ x ∷ []) (sym read))
     ∙ ap text_of (map-append (entry_at blocks) (take k p) (s ∷ []))
-    ∙ text-append (entries_at blocks (take k p)) (entry_at blocks s ∷ [])
+    ∙ text_append (entries_at blocks (take k p)) (entry_at blocks s ∷ [])
     ∙ ap (λ (t : List ℕ). text_of (entries_at blocks (take k p)) ++ t) (append-nil (entry_text (entry_at blocks s)))
 
 -- the text of a page is that of its first entries and of the others
 pub text_parts : (blocks : List (List ℕ)) (p : List Span) (k : ℕ)
     → text_of (entries_at blocks (take k p)) ++ text_of (entries_at blocks (drop k p)) ≡ text_of (entries_at blocks p)
 text_parts blocks p k =
-    sym (text-append (entries_at blocks (take k p)) (entries_at blocks (drop k p)))
+    sym (text_append (entries_at blocks (take k p)) (entries_at blocks (drop k p)))
     ∙ ap text_of (sym (map-append (entry_at blocks) (take k p) (drop k p)))
     ∙ ap (λ (q : List Span). text_of (entries_at blocks q)) (take-append-drop k p)
 
@@ -61,13 +57,13 @@ texts_more blocks pages k h =
     (joined-append (take k pages) (page_at pages k ∷ [])
     ∙ ap (λ (q : List Span). joined (take k pages) ++ q) (append-nil (page_at pages k)))
     ∙ ap text_of (map-append (entry_at blocks) (joined (take k pages)) (page_at pages k))
-    ∙ text-append (entries_of blocks (take k pages)) (entries_at blocks (page_at pages k))
+    ∙ text_append (entries_of blocks (take k pages)) (entries_at blocks (page_at pages k))
 
 pub texts_parts : (blocks : List (List ℕ)) (pages : List (List Span)) (k : ℕ)
     → text_of (entries_of blocks (take k pages)) ++ text_of (entries_of blocks (drop k pages))
     ≡ text_of (entries_of blocks pages)
 texts_parts blocks pages k =
-    sym (text-append (entries_of blocks (take k pages)) (entries_of blocks (drop k pages)))
+    sym (text_append (entries_of blocks (take k pages)) (entries_of blocks (drop k pages)))
     ∙ ap text_of (sym (map-append (entry_at blocks) (joined (take k pages)) (joined (drop k pages))))
     ∙ ap (λ (q : List Span). text_of (entries_at blocks q)) (sym (joined_from pages k))
 

@@ -13,8 +13,14 @@ mod laws;
 #[cfg(test)]
 mod pages;
 #[cfg(test)]
+mod patterns;
+#[cfg(test)]
+mod proofs;
+#[cfg(test)]
 mod selections;
 #[cfg(test)]
 mod spills;
 #[cfg(test)]
 mod streams;
+#[cfg(test)]
+mod trees;

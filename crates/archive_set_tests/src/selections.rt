@@ -1,5 +1,5 @@
 use archive_sets::{
-    AsSevereAs, AskedWord, Both, Condition, Conditions, HasElement, HasWord, InRange, OfFacility,
+    AsSevereAs, Both, Condition, Conditions, FieldTest, HasElement, HasWord, InRange, OfFacility,
     OnlyUndated, SelectFault, Times, WordField, select_stream,
 };
 use archive_streams::{ArchiveEntries, EntriesFault};
@@ -128,24 +128,95 @@ fn records_are_selected_by_their_fields(rt: HostRuntime) -> Result<(), Fail> {
     Ok(())
 }
 
+// a list with one test
+fn one<'a>(rt: &HostRuntime, test: FieldTest<'a>) -> Result<Vec<FieldTest<'a>>, Fail> {
+    let mut tests = Vec::new(rt.alloc());
+    tests.push(test)?;
+    Ok(tests)
+}
+
 #[test]
 fn conditions_that_are_given_together_are_each_met(rt: HostRuntime) -> Result<(), Fail> {
-    let mut asked = Conditions::all();
+    let mut asked = Conditions::all(rt.alloc());
     assert_eq!(rt; selected(&rt, &asked, ALL).0, Ok(3));
-    asked.severity = Some(Severity::Notice);
-    asked.facility = Some(Facility::User);
-    asked.hostname = AskedWord::Is(b"h");
-    asked.proc_id = AskedWord::Absent;
+    asked
+        .any
+        .push(one(&rt, FieldTest::AsSevereAs(Severity::Notice))?)?;
+    asked
+        .any
+        .push(one(&rt, FieldTest::OfFacility(Facility::User))?)?;
+    asked.any.push(one(&rt, FieldTest::Word(WordField::Hostname, Some(b"h")))?)?;
+    asked
+        .any
+        .push(one(&rt, FieldTest::Word(WordField::ProcId, None))?)?;
     assert_eq!(rt; selected(&rt, &asked, ALL).0, Ok(2));
     asked.times = Times::Undated;
     let (answer, written) = selected(&rt, &asked, ALL);
     assert_eq!(rt; answer, Ok(1));
     assert_eq!(rt; written.as_slice(), A);
-    asked.id = Some(b"-");
+    asked.any.push(one(&rt, FieldTest::Element(b"-"))?)?;
     assert_eq!(rt; selected(&rt, &asked, ALL).0, Ok(0));
-    asked.id = None;
-    asked.msg_id = AskedWord::Is(b"h");
-    assert_eq!(rt; selected(&rt, &asked, ALL).0, Ok(0));
+    Ok(())
+}
+
+#[test]
+fn several_tests_mean_any_or_none_of_them(rt: HostRuntime) -> Result<(), Fail> {
+    let mut asked = Conditions::all(rt.alloc());
+    let mut messages = one(&rt, FieldTest::Message(b"x"))?;
+    messages.push(FieldTest::Message(b"y"))?;
+    asked.any.push(messages)?;
+    assert_eq!(rt; selected(&rt, &asked, ALL).0, Ok(2));
+    asked.none.push(FieldTest::Message(b"y"))?;
+    asked.none.push(FieldTest::Message(b"z"))?;
+    let (answer, written) = selected(&rt, &asked, ALL);
+    assert_eq!(rt; answer, Ok(1));
+    assert_eq!(rt; written.as_slice(), A);
+    Ok(())
+}
+
+// how many records pass a test, and how many do not
+fn passing(
+    rt: &HostRuntime,
+    test: FieldTest<'_>,
+    text: &[u8],
+) -> Result<(Result<u64, SelectFault>, Result<u64, SelectFault>), Fail> {
+    let mut with = Conditions::all(rt.alloc());
+    with.any.push(one(rt, test)?)?;
+    let mut without = Conditions::all(rt.alloc());
+    without.none.push(test)?;
+    Ok((selected(rt, &with, text).0, selected(rt, &without, text).0))
+}
+
+#[test]
+fn a_missing_word_is_like_no_pattern(rt: HostRuntime) -> Result<(), Fail> {
+    let text = b"16 <0>1 - - - - - -20 <0>1 - web-1 - - - -20 <0>1 - web-2 - - - -";
+    let host = WordField::Hostname;
+    for (pattern, with) in [("*", 2), ("web-?", 2), ("*1", 1), ("web", 0), ("-", 0)] {
+        let test = FieldTest::WordLike(host, pattern.as_bytes());
+        assert_eq!(rt; passing(&rt, test, text)?, (Ok(with), Ok(3 - with)));
+    }
+    assert_eq!(rt;
+        passing(&rt, FieldTest::Word(host, None), text)?,
+        (Ok(1), Ok(2))
+    );
+    Ok(())
+}
+
+#[test]
+fn a_message_has_its_octets_and_no_others(rt: HostRuntime) -> Result<(), Fail> {
+    let text = b"19 <0>1 - h - - - - ab22 <0>1 - h - - - - \xef\xbb\xbfab";
+    for (octets, with) in [
+        (&b""[..], 2),
+        (b"ab", 2),
+        (b"b", 2),
+        (b"abc", 0),
+        (b"ab2", 0),
+        (b"- ab", 0),
+        (b"\xbfab", 0),
+    ] {
+        let test = FieldTest::Message(octets);
+        assert_eq!(rt; passing(&rt, test, text)?, (Ok(with), Ok(2 - with)));
+    }
     Ok(())
 }
 

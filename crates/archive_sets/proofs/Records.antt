@@ -1,27 +1,18 @@
 -- The record that a view shows.
-use Rattle.std.proofs.Common.{◌≡◌, ℕ, List, sym, subst, ◌∙◌}
+use Rattle.std.proofs.Common.{ℕ, List, sym, subst, ◌∙◌}
 use Rattle.std.specs.Prelude.{ℤ, ◌↔◌}
 use Rattle.octet_language.specs.Language.{AnyOf}
 use Rattle.std.specs.List.Sorted.{IsPermutation}
 use Rattle.syslog_value.specs.Parts.{ElementParts, Parts}
-use Rattle.syslog_fields.specs.Grammar.{StructuredDataText}
 use Rattle.syslog_reading.specs.ViewParts.{IsViewOf, ViewParts}
 use Rattle.syslog_reading.specs.WellFormed.{WellFormed}
 use Rattle.syslog_reading.proofs.Laws.{same_parts}
-use Rattle.archive_sets.specs.Fields.{HasId, IsOfRecord, shown_word, word_in}
-use Rattle.archive_sets.specs.declared.word_field.WordField.{WordField}
+use Rattle.archive_sets.specs.Fields.{IsOfRecord}
+use Rattle.archive_sets.specs.Tests.{IsShownAs}
 use Rattle.archive_sets.specs.declared.word_field.WordField.TheVariants.{Hostname, AppName, ProcId, MsgId}
 use Rattle.archive_sets.proofs.Ids.{ids_permuted}
 
--- the fields that a view shows are those of the record
-pub record IsShownAs (r : Parts ℤ) (s : ViewParts) : Type 0 where
-  pub priority : s.priority ≡ r.priority
-  pub word : (field : WordField) → shown_word field s ≡ word_in field r
-  pub elements : List ElementParts
-  pub spelled : StructuredDataText elements s.elements
-  pub ids : (id : List ℕ) → HasId elements id ↔ HasId r.elements id
-
-shown_as : (b : List ℕ) (s : ViewParts) (r : Parts ℤ) → IsViewOf b s → WellFormed r b → IsShownAs r s
+pub shown_as : (b : List ℕ) (s : ViewParts) (r : Parts ℤ) → IsViewOf b s → WellFormed r b → IsShownAs r s
 shown_as b s r (p, text, range, distinct, shown) (q, also, range', distinct', means) =
     let same = same_parts p q b text also in
     let header = same.header in
@@ -35,6 +26,7 @@ shown_as b s r (p, text, range, distinct, shown) (q, also, range', distinct', me
       ];
       elements = p.elements;
       spelled = shown.elements;
+      message = shown.message ∙ same.message ∙ sym means.message;
       ids = λ id.
           ids_permuted p.elements r.elements id
           (subst (λ (es : List ElementParts). IsPermutation es r.elements) (sym same.elements) means.elements);

@@ -4,4 +4,5 @@ pub mod Failures
 pub mod Selected
 pub mod Selecting
 pub mod Fields
+pub mod Tests
 pub mod Together

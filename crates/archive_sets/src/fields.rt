@@ -71,8 +71,8 @@ pub struct HasWord<'a> {
     pub word: Option<&'a [u8]>,
 }
 
-// The word in a field.
-fn word_of<'a>(field: WordField, shown: &RecordView<'a>) -> Option<&'a [u8]>
+/// The word in a field.
+pub fn word_of<'a>(field: WordField, shown: &RecordView<'a>) -> Option<&'a [u8]>
     ensures { option_map (λ s. s.now) result ≡ shown_word field (view_parts shown.now) }
 {
     match field {
@@ -83,8 +83,8 @@ fn word_of<'a>(field: WordField, shown: &RecordView<'a>) -> Option<&'a [u8]>
     }
 }
 
-// Whether two words are the same.
-fn is_same(word: Option<&[u8]>, other: Option<&[u8]>) -> bool
+/// Whether two words are the same.
+pub fn is_same(word: Option<&[u8]>, other: Option<&[u8]>) -> bool
     ensures { IsTrue result ↔
         (option_map (λ s. s.now) word.entry ≡ option_map (λ s. s.now) other.entry) }
 {

@@ -9,6 +9,7 @@ mod conditions;
 mod copying;
 mod element;
 mod fault;
+mod field_test;
 mod fields;
 mod laws;
 mod range;
@@ -17,9 +18,10 @@ mod selection;
 mod word_field;
 
 pub use condition::{Both, Condition, OnlyUndated};
-pub use conditions::{AskedWord, Conditions, Times};
+pub use conditions::{Conditions, Times};
 pub use element::HasElement;
 pub use fault::SelectFault;
+pub use field_test::FieldTest;
 pub use fields::{AsSevereAs, HasWord, OfFacility};
 pub use laws::{
     selecting_by_both_is_selecting_by_each, selecting_distributes_over_union,

@@ -1,25 +1,25 @@
 -- What is joined of runs that were written.
 use Rattle.std.proofs.Common.{◌≡◌, ◌∙◌, ℕ, ◌+◌, ◌<◌, ◌≤◌, Bool, List, [], ◌∷◌, ◌++◌, length, take, Option, Some, None}
-use Rattle.std.proofs.Common.{refl, sym, ap, subst, inl, inr, arith, append-nil}
-use Rattle.std.specs.Prelude.{◌⊎◌, ◌↔◌, ◌^◌}
+use Rattle.std.proofs.Common.{refl, sym, ap, subst, arith, append-nil}
+use Rattle.std.specs.Prelude.{◌^◌}
 use Rattle.std.specs.List.{AllByRecursion}
 use Rattle.std.specs.Io.KnownBytes.{Appends, Consumes, IsAtEnd}
-use Rattle.std.specs.Prelude.{Result, Err}
+use Rattle.std.specs.Prelude.{Err}
 use Rattle.std.proofs.KnownBytes.{Appends-nil}
 use Rattle.std.proofs.lemmas.List.{length-append}
 use Rattle.std.proofs.lemmas.Grind.{common_steps}
 use Rattle.octet_devices.specs.Device.{InputState, OutputState}
 use Rattle.octet_devices.specs.Held.{StopsWithin}
-use Rattle.archive_text.specs.Entries.{Entry, Has, IsAscending}
+use Rattle.archive_text.specs.Entries.{Entry, IsAscending}
 use Rattle.archive_text.specs.Text.{IsArchive, entry_text, text_of}
 use Rattle.archive_text.specs.declared.limits.TheConstants.{ENTRY_MAX}
 use Rattle.archive_text.proofs.Prefixes.{longest_whole}
 use Rattle.archive_text.proofs.Texts.{same_text}
 use Rattle.archive_streams.specs.Entries.{IsWhole}
-use Rattle.archive_join.specs.Holders.{AreKept, AreKeptUpTo, IsHeld, kept_text}
-use Rattle.archive_join.specs.Inputs.{AreGiven, AreWhole, HasGiven, MayBeFront, MayBeFronts}
+use Rattle.archive_join.specs.Holders.{AreKept, kept_text}
+use Rattle.archive_join.specs.Inputs.{AreGiven, AreWhole, MayBeFront, MayBeFronts}
 use Rattle.archive_join.specs.Failures.{WriteFailures}
-use Rattle.archive_join.specs.Joined.{IsWrittenAt, Joined, Stopped, StopsUpTo}
+use Rattle.archive_join.specs.Joined.{Joined, Stopped, StopsUpTo}
 use Rattle.archive_join.specs.declared.fault.JoinFault.{JoinFault}
 use Rattle.archive_join.specs.declared.fault.JoinFault.TheVariants.{Archive, Read, Endless, Write}
 use Rattle.archive_join.specs.declared.fault.JoinFault.TheVariants.{Memory as join_Memory}
@@ -29,6 +29,7 @@ use Rattle.archive_spill.specs.Runs.{AreRunsOf, AreUnited, IsRunOf}
 use Rattle.archive_spill.specs.Writing.{IsOfRuns, WroteLess, WrotePrefix, WritesOut}
 use Rattle.archive_spill.specs.declared.fault.SpillFault.{SpillFault}
 use Rattle.archive_spill.specs.declared.fault.SpillFault.TheVariants.{TooLong, Spill, Output, Memory}
+use Rattle.std.proofs.Math.Seq.{take-append_seam}
 
 -- ---- what was read of runs
 
@@ -156,15 +157,12 @@ begun W fault ds es xss ys runs archive united s =
 take_front : (n : ℕ) (xs ys : List ℕ) → n ≤ length xs → take n (xs ++ ys) ≡ take n xs
 take_front n xs ys h = grind (arith, common_steps)
 
-take_whole : (xs ys : List ℕ) → take (length xs) (xs ++ ys) ≡ xs
-take_whole xs ys = grind (arith, common_steps)
-
 prefix : (a b : OutputState) (text : List ℕ) → Begun (λ (t : List ℕ). Appends a.taken b.taken t) text
     → b.failures ≡ a.failures → WrotePrefix a b text
 prefix a b text s sound = record {
   n = length s.front;
   octets = subst (λ (t : List ℕ). Appends a.taken b.taken t)
-      (sym (ap (λ (t : List ℕ). take (length s.front) t) s.parts ∙ take_whole s.front s.more)) s.written;
+      (sym (ap (λ (t : List ℕ). take (length s.front) t) s.parts ∙ take-append_seam s.front s.more)) s.written;
   no_failure = sound;
 }
 

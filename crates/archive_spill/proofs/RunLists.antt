@@ -5,32 +5,18 @@ use Rattle.std.proofs.lemmas.Grind.{common_steps}
 use Rattle.std.proofs.Common.{arith, length, Ok, Err, OnOk}
 use Rattle.std.proofs.lemmas.Bool.{eqb-true}
 use Rattle.std.specs.Prelude.{Result, true, ◌==◌}
-use Rattle.archive_text.specs.Entries.{IsAscending}
 use Rattle.archive_text.proofs.Ascending.{same_members}
 use Rattle.archive_spill.specs.Runs.{AreSame}
-use Rattle.std.specs.Prelude.{◌⊎◌, ◌↔◌, Some}
+use Rattle.std.specs.Prelude.{◌⊎◌, ◌↔◌}
 use Rattle.octet_devices.specs.Device.{InputState}
 use Rattle.archive_text.specs.Entries.{Entry, Has}
-use Rattle.archive_text.specs.Text.{IsArchive, text_of}
+use Rattle.archive_text.specs.Text.{IsArchive}
 use Rattle.archive_text.specs.declared.limits.TheConstants.{ENTRY_MAX}
 use Rattle.archive_join.specs.Holders.{IsHeld}
 use Rattle.archive_spill.specs.Runs.{AreKeptIn, AreRunsOf, AreUnited, IsRunOf}
+use Rattle.archive_join.proofs.JoinLaws.{held_left, held_right, held_either}
 
 -- ---- who has an entry
-
-held_left : (xss yss : List (List Entry)) (e : Entry) → IsHeld xss e → IsHeld (xss ++ yss) e
-held_left [] yss e h = absurd h
-held_left (xs ∷ xss) yss e (inl h) = inl h
-held_left (xs ∷ xss) yss e (inr h) = inr (held_left xss yss e h)
-
-held_right : (xss yss : List (List Entry)) (e : Entry) → IsHeld yss e → IsHeld (xss ++ yss) e
-held_right [] yss e h = h
-held_right (xs ∷ xss) yss e h = inr (held_right xss yss e h)
-
-held_either : (xss yss : List (List Entry)) (e : Entry) → IsHeld (xss ++ yss) e → IsHeld xss e ⊎ IsHeld yss e
-held_either [] yss e h = inr h
-held_either (xs ∷ xss) yss e (inl h) = inl (inl h)
-held_either (xs ∷ xss) yss e (inr h) = elim (held_either xss yss e h) [ inl k ↦ inl (inr k) | inr k ↦ inr k ]
 
 -- ---- runs one behind the other
 

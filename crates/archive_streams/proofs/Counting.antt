@@ -8,8 +8,7 @@ use Rattle.std.proofs.lemmas.Bool.{cases_lt}
 use Rattle.std.proofs.lemmas.List.{append-nil, length-append, length-drop, length-take, take-append-drop}
 use Rattle.std.proofs.lemmas.List.{take-append-le, take-take, take_all, drop_at}
 use Rattle.std.proofs.lemmas.List.{take_at}
-use Rattle.octet_language.specs.Language.{AnyOf, Begins, IsFaultOffset, Language, NoPrefix}
-use Rattle.octet_language.proofs.Lists.{parted}
+use Rattle.octet_language.specs.Language.{AnyOf, Begins}
 use Rattle.syslog_frame.specs.Frames.{CanCarry, framed}
 use Rattle.syslog_frame.specs.MsgLen.{IsMsgLen, MsgLen}
 use Rattle.syslog_frame.specs.declared.count.MsgLen.TheVariants.{Whole, Bad}
@@ -25,6 +24,7 @@ use Rattle.archive_streams.specs.declared.fault.InputFault.TheVariants.{Device, 
 use Rattle.archive_streams.specs.declared.fault.SideFault.TheVariants.{Input}
 use Rattle.archive_streams.specs.declared.pieces.Pieces.{Pieces}
 use Rattle.octet_devices.specs.declared.loops.TheConstants.{READER_CALLS}
+use Rattle.octet_language.proofs.FaultOffset.{NoPrefix-longer, IsFaultOffset-longer}
 
 -- nothing is unfinished
 pub unfinished_nil : IsUnfinished []
@@ -61,40 +61,11 @@ whole_all s m text count used u e few h =
       | inr all ↦ subst (MsgLen count) (take_all used text all) h.1
     ]
 
--- octets that no length begins with
-further : (L : Language) (b more : List ℕ) → NoPrefix L b → ¬ (Begins L b) → NoPrefix L (b ++ more)
-further L b [] none dead x y e h = none x y (sym (append-nil b) ∙ e) h
-further L b (m ∷ more) none dead x y e h =
-    elim (parted x y b m more (sym e)) [
-      | inl z ↦ dead (m ∷ z.0, subst L z.1 h)
-      | inr w ↦ none x w.0 w.1 h
-    ]
-
-none_longer : (L : Language) (b more : List ℕ) → ¬ (Begins L b) → ¬ (Begins L (b ++ more))
-none_longer L b more dead (end, h) = dead (more ++ end, subst L (append_assoc b more end) h)
-
-offset_longer : (L : Language) (b more : List ℕ) (n : ℕ) → ¬ (Begins L b) → IsFaultOffset L b n
-    → IsFaultOffset L (b ++ more) n
-offset_longer L b more n dead p = record {
-  within = omega (arith, p.within, length-append b more);
-  begins = subst (Begins L) (sym (take-append-le n b more p.within)) p.begins;
-  longest = λ m within h.
-      elim (cases_lt (length b) m) [
-        | inl past ↦
-            let prefix : take m (b ++ more) ≡ b ++ drop (length b) (take m (b ++ more)) =
-            sym (take-append-drop (length b) (take m (b ++ more)))
-            ∙ ap (λ (u : List ℕ). u ++ drop (length b) (take m (b ++ more)))
-            (take-take (length b) m (b ++ more) (omega (arith, past)) ∙ take_at b more (length b) refl) in
-            absurd (none_longer L b (drop (length b) (take m (b ++ more))) dead (subst (Begins L) prefix h))
-        | inr le ↦ p.longest m le (subst (Begins L) (take-append-le m b more le) h)
-      ];
-}
-
 -- a bad length, however the octets go on
 pub bad_count : (most : ℕ) (text rest : List ℕ) (at : ℕ) → IsMsgLen text (Bad at) → IsBadFrame most (text ++ rest) at
 bad_count most text rest at h = inl (
-  further (AnyOf MsgLen) text rest h.0 h.1,
-  offset_longer (AnyOf MsgLen) text rest at h.1 h.2,
+  NoPrefix-longer (AnyOf MsgLen) text rest h.0 h.1,
+  IsFaultOffset-longer (AnyOf MsgLen) text rest at h.1 h.2,
 )
 
 -- it is inside the text

@@ -8,7 +8,7 @@ use Rattle.archive_text.specs.Faults.{IsArchiveFault, IsFaultBehind, IsLongestAr
 use Rattle.archive_text.specs.Text.{IsArchive, entry_text, text_of}
 use Rattle.archive_text.specs.declared.fault.ArchiveFault.{ArchiveFault}
 use Rattle.archive_text.specs.declared.limits.TheConstants.{ENTRY_MAX}
-use Rattle.archive_text.proofs.Orders.{below_asymmetric, below_irreflexive, below_transitive}
+use Rattle.archive_text.proofs.Orders.{below_asymmetric, below_irreflexive, below_transitive, below_total}
 use Rattle.archive_text.proofs.Members.{has_either, has_left, has_right, of_member}
 use Rattle.archive_text.proofs.Ascending.{ascending_across}
 use Rattle.archive_text.proofs.Texts.{no_text, one_begins, text_append, text_length, text_some}
@@ -35,9 +35,44 @@ pub record SideAt (x : List ℕ) (ls ws : List Entry) : Type 0 where
   pub archive : IsArchive ENTRY_MAX es
   pub stands : Standing es ls ws rest
 
-within_below : (ls : List Entry) (w e : Entry) → IsWithin ls w → ((m : Entry) → Has ls m → IsBelow m e) → IsBelow w e
+pub within_below : (ls : List Entry) (w e : Entry) → IsWithin ls w → ((m : Entry) → Has ls m → IsBelow m e) → IsBelow w e
 within_below ls w e (m, has, inl same) below = subst (λ (k : Entry). IsBelow k e) (sym same) (below m has)
 within_below ls w e (m, has, inr less) below = below_transitive w m e less (below m has)
+
+-- an entry that is not within a list is above all of those that are
+pub above_within : (bound : List Entry) (e w : Entry) → ¬ (IsWithin bound e) → IsWithin bound w → IsBelow w e
+above_within bound e w out (m, has, below) = go (below_total e m)
+  where
+    up : IsBelow m e → (w ≡ m) ⊎ IsBelow w m → IsBelow w e
+    up more (inl same) = subst (λ (x : Entry). IsBelow x e) (sym same) more
+    up more (inr less) = below_transitive w m e less more
+
+    go : IsBelow e m ⊎ ((e ≡ m) ⊎ IsBelow m e) → IsBelow w e
+    go (inl less) = absurd (out (m, has, inr less))
+    go (inr (inl same)) = absurd (out (m, has, inl same))
+    go (inr (inr more)) = up more below
+
+pub within_or_not : (bound : List Entry) (e : Entry) → IsWithin bound e ⊎ ¬ (IsWithin bound e)
+within_or_not [] e = inr (λ w. w.1)
+within_or_not (m ∷ bound) e = go (below_total e m) (within_or_not bound e)
+  where
+    later : IsWithin bound e → IsWithin (m ∷ bound) e
+    later (k, has, below) = (k, inr has, below)
+
+    no : IsBelow m e → ¬ (IsWithin bound e) → ¬ (IsWithin (m ∷ bound) e)
+    no above out (k, inl same, below) = beyond (subst (λ (x : Entry). IsBelow x e) same above) below
+      where
+        beyond : IsBelow k e → ¬ ((e ≡ k) ⊎ IsBelow e k)
+        beyond over (inl is) = below_irreflexive k (subst (IsBelow k) is over)
+        beyond over (inr under) = below_irreflexive k (below_transitive k e k over under)
+    no above out (k, inr has, below) = out (k, has, below)
+
+    go : IsBelow e m ⊎ ((e ≡ m) ⊎ IsBelow m e) → IsWithin bound e ⊎ ¬ (IsWithin bound e)
+        → IsWithin (m ∷ bound) e ⊎ ¬ (IsWithin (m ∷ bound) e)
+    go (inl less) rest = inl (m, inl refl, inr less)
+    go (inr (inl same)) rest = inl (m, inl refl, inl same)
+    go (inr (inr more)) (inl within) = inl (later within)
+    go (inr (inr more)) (inr out) = inr (no more out)
 
 has_none : (gs : List Entry) (e : Entry) → gs ≡ [] → Has gs e → ⊥
 has_none gs e none h = subst (λ (l : List Entry). Has l e) none h

@@ -9,8 +9,8 @@ use Rattle.syslog_frame.specs.Frames.{framed}
 use Rattle.syslog_frame.specs.declared.framing.Framing.TheVariants.{Counted}
 use Rattle.octet_devices.specs.declared.loops.TheConstants.{READER_CALLS}
 use Rattle.archive_text.specs.Entries.{Entry, IsAscending}
-use Rattle.archive_text.specs.Faults.{BeginsWithOctets, IsFaultBefore, IsFaultBehind, IsNotAscending}
-use Rattle.archive_text.specs.Text.{IsArchive, text_of}
+use Rattle.archive_text.specs.Faults.{BeginsWithOctets, IsFaultBefore, IsNotAscending}
+use Rattle.archive_text.specs.Text.{IsArchive}
 use Rattle.archive_text.specs.declared.fault.ArchiveFault.{ArchiveFault}
 use Rattle.archive_text.specs.declared.fault.ArchiveFault.TheVariants.{BadFrame, EntryTooLong, BadEntry, NotCanonical}
 use Rattle.archive_text.specs.declared.fault.ArchiveFault.TheVariants.{NotAscending}
@@ -27,6 +27,7 @@ use Rattle.archive_streams.specs.declared.entry.EntryText.{EntryText}
 use Rattle.archive_streams.specs.declared.fault.SideFault.TheVariants.{Archive}
 use Rattle.archive_streams.specs.declared.pieces.Pieces.{Pieces}
 use Rattle.archive_streams.specs.declared.pieces.TheConstants.{ENTRIES_READ_MAX}
+use Rattle.archive_text.proofs.FaultLaws.{fault_behind}
 
 -- an entry has octets before it
 begun : (most : ℕ) (s b : List ℕ) → BeginsWithOctets most s b → 0 < length s
@@ -49,26 +50,6 @@ judged_fault most b s (BadFrame at) ends w j = absurd j
 judged_fault most b s (EntryTooLong at) ends w j = absurd j
 judged_fault most b s (NotAscending at) ends w j = absurd j
 
--- a fault at the start of what follows entries is a fault behind them
-fault_after : (fault : ArchiveFault) (position : ℕ) (rest : List ℕ) (es : List Entry) → length (text_of es) ≡ position
-    → IsFaultBefore ENTRY_MAX rest fault
-    → IsFaultBehind ENTRY_MAX es rest (later position fault)
-fault_after (BadFrame at) position rest es e h = (at, h, omega (arith, e))
-fault_after (EntryTooLong at) position rest es e h = (omega (arith, e, h.0), h.1)
-fault_after (BadEntry at fault) position rest es e h = (omega (arith, e, h.0), (refl, h.1))
-fault_after (NotCanonical at) position rest es e h = (omega (arith, e, h.0), (refl, h.1))
-fault_after (NotAscending at) position rest es e h = absurd h
-
--- a fault is within the text
-pub position_within : (most : ℕ) (rest : List ℕ) (fault : ArchiveFault) → IsFaultBefore most rest fault
-    → position_of fault ≤ length rest
-position_within most rest (BadFrame at) (inl (none, offset)) = offset.within
-position_within most rest (BadFrame at) (inr (count, behind, follows, low, cut, is)) = omega (arith, is)
-position_within most rest (EntryTooLong at) (is, h) = omega (arith, is)
-position_within most rest (BadEntry at fault) (is, h) = omega (arith, is)
-position_within most rest (NotCanonical at) (is, h) = omega (arith, is)
-position_within most rest (NotAscending at) h = absurd h
-
 position_later : (fault : ArchiveFault) (position : ℕ)
     → position_of (later position fault) ≡ position + position_of fault
 position_later (BadFrame at) position = refl
@@ -81,7 +62,7 @@ pub next_fault : (fault : ArchiveFault) (last : EntryText) (position : ℕ) (res
     → IsSideFault (Archive fault) rest p
     → IsNextFault (Archive (later position fault)) last position rest p
 next_fault fault last position rest p h = (
-  λ es archive ends e. fault_after fault position rest es e h.0,
+  λ es archive ends e. fault_behind ENTRY_MAX position es rest fault (sym e) h.0,
   h.1,
   λ e. h.2 (omega (arith, e, position_later fault position)),
 )

@@ -1,6 +1,6 @@
 //! Collectors over both stores.
 
-use crate::support::{A, ARCHIVE, B, C, collected, collector, text_of};
+use crate::support::{A, ARCHIVE, B, C, collector, run_of, text_of};
 use archive_laws::same_records_have_one_text;
 use archive_pages::PagedArchive;
 use archive_text::Store;
@@ -18,25 +18,6 @@ const FIRST_STREAM: &[u8] = b"38 <14>1 2024-02-29T23:30:00Z h a - - - y19 <13>1 
 const SECOND_STREAM: &[u8] =
     b"38 <12>1 2024-02-29T23:00:00Z h a - - - z45 <14>1 2024-02-29T23:30:00.000000Z h a - - - y";
 
-/// What a run over events logs, and the text of the archive then: the same over both stores.
-fn run_of(
-    rt: &(impl Abort + AllocGlobal),
-    events: &[Event<'_>],
-) -> Result<(Vec<Outcome>, Vec<u8>), Fail> {
-    let alloc = rt.alloc();
-    let (end, log, text) = collected(alloc, VecArchive::new(alloc), events)?;
-    let (end_of_pages, log_of_pages, text_of_pages) = collected(
-        alloc,
-        PagedArchive::new(alloc),
-        events,
-    )?;
-    assert_eq!(rt; end, RunEnd::Done);
-    assert_eq!(rt; end_of_pages, RunEnd::Done);
-    assert!(rt; log == log_of_pages);
-    assert!(rt; text == text_of_pages);
-    Ok((log, text))
-}
-
 #[test]
 fn datagrams_and_a_line_are_archived(rt: HostRuntime) -> Result<(), Fail> {
     let framing = Framing::Lf;
@@ -50,7 +31,7 @@ fn datagrams_and_a_line_are_archived(rt: HostRuntime) -> Result<(), Fail> {
         },
         Event::Ended { conn: 1 },
     ];
-    let (log, text) = run_of(&rt, events.as_slice())?;
+    let (log, text) = run_of(&rt, None, events.as_slice())?;
     let expected = [Outcome::New, Outcome::New, Outcome::New];
     assert_eq!(rt; log.as_slice(), expected.as_slice());
     assert_eq!(rt; text.as_slice(), ARCHIVE);
@@ -90,7 +71,7 @@ fn two_streams_are_cut_at_every_place(rt: HostRuntime) -> Result<(), Fail> {
         let first = FIRST_STREAM.split_at_checked(cut).ok_or("too short")?;
         for other in 0..90 {
             let second = SECOND_STREAM.split_at_checked(other).ok_or("too short")?;
-            let (log, text) = run_of(&rt, turns(first, second).as_slice())?;
+            let (log, text) = run_of(&rt, None, turns(first, second).as_slice())?;
             assert_eq!(rt; log.len(), 4);
             assert_eq!(rt; text.as_slice(), ARCHIVE);
         }
@@ -107,7 +88,7 @@ fn run_of_datagrams(
     for octets in datagrams {
         events.push(Event::Datagram { octets })?;
     }
-    run_of(rt, events.as_slice())
+    run_of(rt, None, events.as_slice())
 }
 
 /// A collector over a store that received datagrams.

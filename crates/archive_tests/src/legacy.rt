@@ -1,7 +1,6 @@
 //! Collectors that read legacy packets (RFC 3164) under a clock.
 
-use crate::support::{A, collected, collected_under, collector_under, text_of};
-use archive_pages::PagedArchive;
+use crate::support::{A, collected, collector_under, in_two_pieces, run_of, text_of};
 use archive_vec::VecArchive;
 use std::process::Abort;
 use std::test::Fail;
@@ -34,24 +33,16 @@ fn clock() -> Result<LegacyClock, Fail> {
     Ok(LegacyClock::new(2001, -300).ok_or("no clock")?)
 }
 
-/// What a run over events logs, and the text of the archive then: the same over both stores.
-fn run_of(
+/// Sees that a run over events logs these outcomes, and leaves the archive above.
+fn see_archived(
     rt: &(impl Abort + AllocGlobal),
     events: &[Event<'_>],
-) -> Result<(Vec<Outcome>, Vec<u8>), Fail> {
-    let alloc = rt.alloc();
-    let (end, log, text) = collected_under(alloc, Some(clock()?), VecArchive::new(alloc), events)?;
-    let (end_of_pages, log_of_pages, text_of_pages) = collected_under(
-        alloc,
-        Some(clock()?),
-        PagedArchive::new(alloc),
-        events,
-    )?;
-    assert_eq!(rt; end, RunEnd::Done);
-    assert_eq!(rt; end_of_pages, RunEnd::Done);
-    assert!(rt; log == log_of_pages);
-    assert!(rt; text == text_of_pages);
-    Ok((log, text))
+    outcomes: &[Outcome],
+) -> Result<(), Fail> {
+    let (log, text) = run_of(rt, Some(clock()?), events)?;
+    assert_eq!(rt; log.as_slice(), outcomes);
+    assert_eq!(rt; text.as_slice(), ARCHIVE);
+    Ok(())
 }
 
 #[test]
@@ -63,39 +54,22 @@ fn legacy_datagrams_are_archived(rt: HostRuntime) -> Result<(), Fail> {
         Event::Datagram { octets: b"" },
         Event::Datagram { octets: CRON },
     ];
-    let (log, text) = run_of(&rt, events.as_slice())?;
-    let expected = [
+    let outcomes = [
         Outcome::New,
         Outcome::New,
         Outcome::New,
         Outcome::New,
         Outcome::Held,
     ];
-    assert_eq!(rt; log.as_slice(), expected.as_slice());
-    assert_eq!(rt; text.as_slice(), ARCHIVE);
-    Ok(())
+    see_archived(&rt, events.as_slice(), outcomes.as_slice())
 }
 
 #[test]
 fn lines_in_both_forms_are_cut_at_every_place(rt: HostRuntime) -> Result<(), Fail> {
-    let framing = Framing::Lf;
     for cut in 0..76 {
         let pieces = LINES.split_at_checked(cut).ok_or("too short")?;
-        let events = [
-            Event::Opened { conn: 1, framing },
-            Event::Piece {
-                conn: 1,
-                octets: pieces.0,
-            },
-            Event::Piece {
-                conn: 1,
-                octets: pieces.1,
-            },
-            Event::Ended { conn: 1 },
-        ];
-        let (log, text) = run_of(&rt, events.as_slice())?;
-        assert_eq!(rt; log.as_slice(), [Outcome::New; 4].as_slice());
-        assert_eq!(rt; text.as_slice(), ARCHIVE);
+        let events = in_two_pieces(Framing::Lf, pieces);
+        see_archived(&rt, events.as_slice(), [Outcome::New; 4].as_slice())?;
     }
     Ok(())
 }
@@ -112,10 +86,7 @@ fn a_counted_stream_and_a_datagram_give_the_same_archive(rt: HostRuntime) -> Res
         },
         Event::Ended { conn: 1 },
     ];
-    let (log, text) = run_of(&rt, events.as_slice())?;
-    assert_eq!(rt; log.as_slice(), [Outcome::New; 4].as_slice());
-    assert_eq!(rt; text.as_slice(), ARCHIVE);
-    Ok(())
+    see_archived(&rt, events.as_slice(), [Outcome::New; 4].as_slice())
 }
 
 #[test]
@@ -131,7 +102,7 @@ fn a_refused_packet_leaves_the_next(rt: HostRuntime) -> Result<(), Fail> {
         },
         Event::Ended { conn: 1 },
     ];
-    let (log, text) = run_of(&rt, events.as_slice())?;
+    let (log, text) = run_of(&rt, Some(clock()?), events.as_slice())?;
     let field = Field::Timestamp;
     let no_utf8 = Outcome::RefusedLegacy { offset: 4 };
     let no_record = Outcome::Refused(Fault::Syntax { field, offset: 6 });

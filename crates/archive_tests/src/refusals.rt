@@ -1,6 +1,6 @@
 //! What a collector refuses, and what it goes on with.
 
-use crate::support::{A, collected, collector, text_of};
+use crate::support::{A, collected, collector, in_two_pieces, text_of};
 use archive_pages::PagedArchive;
 use archive_vec::VecArchive;
 use std::alloc::Global;
@@ -117,19 +117,7 @@ fn run_of_lines<'a>(
     alloc: Global,
     pieces: (&'a [u8], &'a [u8]),
 ) -> Result<(RunEnd, Vec<Outcome>, Vec<u8>), Fail> {
-    let framing = Framing::Lf;
-    let events = [
-        Event::Opened { conn: 1, framing },
-        Event::Piece {
-            conn: 1,
-            octets: pieces.0,
-        },
-        Event::Piece {
-            conn: 1,
-            octets: pieces.1,
-        },
-        Event::Ended { conn: 1 },
-    ];
+    let events = in_two_pieces(Framing::Lf, pieces);
     collected(alloc, VecArchive::new(alloc), events.as_slice())
 }
 

@@ -29,6 +29,15 @@ struct Answer {
     lines: Vec<u8>,
 }
 
+// A status, and what was written.
+fn answer_of(status: u8, output: ToWrite<Vec<u8>>, lines: ToWrite<Vec<u8>>) -> Answer {
+    Answer {
+        status,
+        output: output.into_inner(),
+        lines: lines.into_inner(),
+    }
+}
+
 // 120 lines of 60 records, some of them refused, and then an end inside a line
 fn input(alloc: Global) -> Result<String, Fail> {
     let mut text = String::new(alloc);
@@ -57,11 +66,7 @@ fn expected(alloc: Global, text: &[u8]) -> Answer {
         &mut output,
         &mut lines,
     );
-    Answer {
-        status,
-        output: output.into_inner(),
-        lines: lines.into_inner(),
-    }
+    answer_of(status, output, lines)
 }
 
 // what it answers with a set of this room over a spill
@@ -77,11 +82,7 @@ fn spilled(alloc: Global, text: &[u8], spill: MemorySpill, room: usize) -> Answe
         &mut output,
         &mut lines,
     );
-    Answer {
-        status,
-        output: output.into_inner(),
-        lines: lines.into_inner(),
-    }
+    answer_of(status, output, lines)
 }
 
 #[test]

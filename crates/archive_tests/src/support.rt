@@ -1,10 +1,14 @@
 //! What the tests share: three records, and collectors and archives of them.
 
+use archive_pages::PagedArchive;
 use archive_text::Store;
+use archive_vec::VecArchive;
 use octet_devices::ToWrite;
 use std::alloc::Global;
+use std::process::Abort;
 use std::test::Fail;
 use syslog_collect::{Collector, Event, Outcome, RunEnd};
+use syslog_frame::Framing;
 use syslog_grammar::view;
 use syslog_legacy::LegacyClock;
 
@@ -83,4 +87,42 @@ pub fn collected_under<S: Store + Drop>(
     let end = collector.run(alloc, events, &mut log);
     let text = text_of(alloc, collector.store())?;
     Ok((end, log, text))
+}
+
+/// What a run over events logs, and the text of the archive then, with legacy packets read under a
+/// clock, if there is one: the same over both stores.
+pub fn run_of(
+    rt: &(impl Abort + AllocGlobal),
+    clock: Option<LegacyClock>,
+    events: &[Event<'_>],
+) -> Result<(Vec<Outcome>, Vec<u8>), Fail> {
+    let alloc = rt.alloc();
+    let (end, log, text) = collected_under(alloc, clock, VecArchive::new(alloc), events)?;
+    let (end_of_pages, log_of_pages, text_of_pages) = collected_under(
+        alloc,
+        clock,
+        PagedArchive::new(alloc),
+        events,
+    )?;
+    assert_eq!(rt; end, RunEnd::Done);
+    assert_eq!(rt; end_of_pages, RunEnd::Done);
+    assert!(rt; log == log_of_pages);
+    assert!(rt; text == text_of_pages);
+    Ok((log, text))
+}
+
+/// A connection that gives two pieces, and ends.
+pub fn in_two_pieces<'a>(framing: Framing, pieces: (&'a [u8], &'a [u8])) -> [Event<'a>; 4] {
+    [
+        Event::Opened { conn: 1, framing },
+        Event::Piece {
+            conn: 1,
+            octets: pieces.0,
+        },
+        Event::Piece {
+            conn: 1,
+            octets: pieces.1,
+        },
+        Event::Ended { conn: 1 },
+    ]
 }

@@ -63,12 +63,6 @@ instant_total (Some i) (Some j) = some_total i j (int_cmp i j) (int_ranked i j (
 
 -- ---- octets
 
-pub octets_irreflexive : (a : List ℕ) → ¬ (OctetsBelow a a)
-octets_irreflexive = below_itself
-
-pub octets_transitive : (a b c : List ℕ) → OctetsBelow a b → OctetsBelow b c → OctetsBelow a c
-octets_transitive = below_trans
-
 pub octets_asymmetric : (a b : List ℕ) → OctetsBelow a b → ¬ (OctetsBelow b a)
 octets_asymmetric a b h k = below_itself a (below_trans a b a h k)
 

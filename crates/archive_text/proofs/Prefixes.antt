@@ -1,7 +1,7 @@
 -- The longest prefix of a text that is an archive, and the fault behind it.
 use Rattle.std.proofs.Common.{◌≡◌, ℕ, ◌<◌, ◌≤◌, ◌∙◌, inl, inr, refl, sym, ap, subst, arith, List, [], ◌∷◌, ◌++◌, length}
 use Rattle.std.proofs.Common.{append_assoc}
-use Rattle.std.specs.Prelude.{decimal}
+use Rattle.std.specs.Prelude.{decimal, ◌⊎◌}
 use Rattle.std.proofs.lemmas.List.{append-nil, length-append}
 use Rattle.octet_language.specs.Language.{AnyOf}
 use Rattle.octet_language.specs.Reading.{Follows}
@@ -21,6 +21,7 @@ use Rattle.archive_text.specs.declared.fault.ArchiveFault.TheVariants.{BadFrame,
 use Rattle.archive_text.specs.declared.fault.ArchiveFault.TheVariants.{NotAscending}
 use Rattle.archive_text.proofs.Ascending.{archive_right, ascending_left}
 use Rattle.archive_text.proofs.Texts.{GoesOn, first_of_text, one_begins, same_octets, text_length, text_some}
+use Rattle.archive_text.specs.declared.limits.TheConstants.{ENTRY_MAX}
 
 -- ---- where no entry goes on
 
@@ -66,6 +67,28 @@ pub longest_whole : (most : ℕ) (text : List ℕ) (es : List Entry) → most �
     → text ≡ text_of es → IsLongestArchive most text es []
 longest_whole most text es low h is = longest_stuck most text es [] low h (is ∙ sym (append-nil (text_of es)))
     (stuck_nil most es)
+
+-- the longest archive that octets begin with goes on behind each other one
+pub front_goes_on : (given r s : List ℕ) (xs fs : List Entry) → IsArchive ENTRY_MAX xs → given ≡ text_of xs ++ r
+    → IsLongestArchive ENTRY_MAX given fs s → (later : List Entry) × (fs ≡ xs ++ later)
+front_goes_on given r s xs fs a parts f =
+    placed (one_begins ENTRY_MAX ENTRY_MAX xs fs r s (omega arith) (omega arith) a f.archive (sym parts ∙ f.parts))
+  where
+    shorter : (gs : List Entry) → xs ≡ fs ++ gs → (later : List Entry) × (fs ≡ xs ++ later)
+    shorter [] same = ([], sym (append-nil fs) ∙ sym same ∙ sym (append-nil xs))
+    shorter (g ∷ gs) same =
+        absurd (omega (
+          arith,
+          f.longest xs r a parts,
+          ap (λ (l : List Entry). length (text_of l)) same,
+          text_length fs (g ∷ gs),
+          length-append (entry_text g) (text_of gs),
+          text_some g,
+        ))
+
+    placed : GoesOn xs r fs s ⊎ GoesOn fs s xs r → (later : List Entry) × (fs ≡ xs ++ later)
+    placed (inl (gs, same, more)) = (gs, same)
+    placed (inr (gs, same, more)) = shorter gs same
 
 -- two longest archives are one
 pub one_longest : (most : ℕ) (text : List ℕ) (es fs : List Entry) (r s : List ℕ) → most ≤ COUNT_MAX

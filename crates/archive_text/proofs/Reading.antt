@@ -7,16 +7,12 @@ use Rattle.syslog_frame.specs.MsgLen.{MsgLen}
 use Rattle.syslog_value.specs.Parts.{Parts, IsRecord}
 use Rattle.syslog_fields.specs.Canonical.{Canonical}
 use Rattle.syslog_reading.specs.ViewParts.{IsViewOf, ViewParts}
-use Rattle.syslog_reading.specs.WellFormed.{WellFormed}
 use Rattle.syslog_grammar.proofs.CanonicalParses.{canonical_well_formed}
-use Rattle.syslog_reading.proofs.Laws.{same_parts}
 use Rattle.archive_text.specs.Entries.{Entry, IsEntry}
-use Rattle.archive_text.specs.Faults.{BeginsWithOctets}
-
--- the instant that a view shows is that of the record
-pub shown_time : (b : List ℕ) (s : ViewParts) (r : Parts ℤ) → IsViewOf b s → WellFormed r b → s.instant ≡ r.time
-shown_time b s r (p, text, range, distinct, shown) (q, also, range', distinct', means) =
-    shown.instant ∙ (same_parts p q b text also).header.time ∙ sym means.time
+use Rattle.archive_text.specs.Faults.{BeginsWithOctets, IsCountedFirst, IsCountFault, IsFaultBefore}
+use Rattle.syslog_grammar.proofs.ShownRecords.{shown_time}
+use Rattle.archive_text.specs.declared.fault.ArchiveFault.{ArchiveFault}
+use Rattle.archive_text.specs.declared.fault.ArchiveFault.TheVariants.{BadFrame, EntryTooLong, BadEntry, NotCanonical, NotAscending}
 
 -- the octets that a view shows, where they are canonical, are an entry
 pub canonical_entry : (e : Entry) (s : ViewParts) → IsViewOf e.octets s → e.instant ≡ s.instant
@@ -38,23 +34,34 @@ behind_length count used text behind h e =
     (take used text, sym (take-append-drop used text) ∙ ap (λ (s : List ℕ). take used text ++ s) (sym e), h)
 
 -- the octets that a length counts
-pub counted : (most count used : ℕ) (text behind octets : List ℕ) → MsgLen count (take used text)
-    → behind ≡ drop used text → octets ≡ take count behind
-    → count ≤ length behind → count ≤ most → BeginsWithOctets most text octets
-counted most count used text behind octets h e f within low =
+pub counted : (most count used : ℕ) (text behind octets rest : List ℕ) → MsgLen count (take used text)
+    → behind ≡ drop used text → octets ≡ take count behind → rest ≡ drop count behind → count ≤ length behind
+    → count ≤ most → IsCountedFirst most text octets rest
+counted most count used text behind octets rest h e f g within low =
     let size : length octets ≡ count = ap length f ∙ length-take-le count behind within in
-    let parted : octets ++ drop count behind ≡ behind =
-    ap (λ (s : List ℕ). s ++ drop count behind) f ∙ take-append-drop count behind in
+    let parted : octets ++ rest ≡ behind =
+    ap (λ (s : List ℕ). s ++ rest) f ∙ ap (λ (s : List ℕ). take count behind ++ s) g ∙ take-append-drop count behind in
     let length_and_space : take used text ≡ decimal (length octets) ++ 32 ∷ [] =
     h.2 ∙ ap (λ (n : ℕ). decimal n ++ 32 ∷ []) (sym size) in
-    let whole : text ≡ (decimal (length octets) ++ 32 ∷ []) ++ (octets ++ drop count behind) =
+    let whole : text ≡ (decimal (length octets) ++ 32 ∷ []) ++ (octets ++ rest) =
     sym (take-append-drop used text) ∙ ap (λ (s : List ℕ). s ++ drop used text) length_and_space
-    ∙ ap (λ (s : List ℕ). (decimal (length octets) ++ 32 ∷ []) ++ s) (sym e ∙ sym parted) in (
-      (omega (arith, h.0), omega (arith, h.1)),
-      omega arith,
-      (
-        drop count behind,
-        whole ∙ append_assoc (decimal (length octets)) (32 ∷ []) (octets ++ drop count behind)
-            ∙ sym (append_assoc (decimal (length octets)) (32 ∷ octets) (drop count behind)),
-      ),
-    )
+    ∙ ap (λ (s : List ℕ). (decimal (length octets) ++ 32 ∷ []) ++ s) (sym e ∙ sym parted) in record {
+      carries = (omega (arith, h.0), omega (arith, h.1));
+      fits = omega arith;
+      parts = whole ∙ append_assoc (decimal (length octets)) (32 ∷ []) (octets ++ rest)
+          ∙ sym (append_assoc (decimal (length octets)) (32 ∷ octets) rest);
+    }
+
+-- counted octets that come first
+pub counted_begin : (most : ℕ) (text octets rest : List ℕ) → IsCountedFirst most text octets rest
+    → BeginsWithOctets most text octets
+counted_begin most text octets rest c = (c.carries, c.fits, (rest, c.parts))
+
+-- where none do, no entry does
+pub count_fault : (most : ℕ) (text : List ℕ) (fault : ArchiveFault) → IsCountFault most text fault
+    → IsFaultBefore most text fault
+count_fault most text (BadFrame at) h = h
+count_fault most text (EntryTooLong at) h = h
+count_fault most text (BadEntry at fault) h = absurd h
+count_fault most text (NotCanonical at) h = absurd h
+count_fault most text (NotAscending at) h = absurd h

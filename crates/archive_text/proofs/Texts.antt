@@ -9,12 +9,12 @@ use Rattle.syslog_frame.specs.declared.framing.Framing.TheVariants.{Counted}
 use Rattle.syslog_frame.specs.declared.limits.TheConstants.{COUNT_MAX}
 use Rattle.syslog_frame.proofs.FrameLaws.{one_frame}
 use Rattle.syslog_value.specs.Parts.{Parts}
-use Rattle.syslog_fields.specs.Canonical.{Canonical, HeaderForm}
 use Rattle.syslog_grammar.proofs.CanonicalParses.{canonical_injective, canonical_once}
 use Rattle.archive_text.specs.Entries.{Entry, IsEntry, IsEntryOf}
 use Rattle.archive_text.specs.Text.{BeginsWithEntry, IsArchive, entry_text, text_of}
 use Rattle.archive_text.proofs.Ascending.{archive_right}
 use Rattle.archive_text.proofs.Orders.{same_entry}
+use Rattle.syslog_fields.proofs.CanonicalTexts.{canonical_some}
 
 -- ---- entries and their octets
 
@@ -31,12 +31,6 @@ one_record r q e f h k = (canonical_injective r q e.octets f.octets h.valid k.va
 pub same_octets : (e f : Entry) → IsEntry e → IsEntry f → e.octets ≡ f.octets → e ≡ f
 same_octets e f (r, h) (q, k) same = same_entry e f
     (h.instant ∙ ap (λ p. p.time) (one_record r q e f h k same) ∙ sym k.instant) same
-
--- canonical octets are never none
-canonical_some : (r : Parts ℤ) (b : List ℕ) → Canonical r b → 0 < length b
-unfolding HeaderForm
-canonical_some r b (x, y, e, (u, v, f, g, h), k) =
-    omega (arith, ap length e, length-append x y, ap length f, length-append u v, ap length g)
 
 pub entry_some : (e : Entry) → IsEntry e → 0 < length e.octets
 entry_some e (r, h) = canonical_some r e.octets h.canonical
@@ -107,7 +101,7 @@ first_of_text most text e es rest low h is = record {
 abbrev pub GoesOn : List Entry → List ℕ → List Entry → List ℕ → Type 0
 GoesOn es r fs s = (gs : List Entry) × (fs ≡ es ++ gs) × (r ≡ text_of gs ++ s)
 
-goes_on_behind : (e f : Entry) (es fs : List Entry) (r s : List ℕ) → e ≡ f → GoesOn es r fs s
+pub goes_on_behind : (e f : Entry) (es fs : List Entry) (r s : List ℕ) → e ≡ f → GoesOn es r fs s
     → GoesOn (e ∷ es) r (f ∷ fs) s
 goes_on_behind e f es fs r s same (gs, h, k) = (gs, ap (λ x. x ∷ fs) (sym same) ∙ ap (λ xs. e ∷ xs) h, k)
 
@@ -128,7 +122,7 @@ one_begins most more (e ∷ es) (f ∷ fs) r s low small h k same =
       | inr later ↦ inr (goes_on_behind f e fs es s r (sym both.0) later)
     ]
 
-none_behind : (es fs : List Entry) → GoesOn es [] fs [] → es ≡ fs
+pub none_behind : (es fs : List Entry) → GoesOn es [] fs [] → es ≡ fs
 none_behind es fs (gs, h, k) = sym (h ∙ ap (λ (xs : List Entry). es ++ xs) (no_text gs [] k) ∙ append-nil es)
 
 -- one text is that of one archive

@@ -29,6 +29,12 @@ abbrev pub BeginsWithOctets : ℕ → List ℕ → List ℕ → Type 0
 BeginsWithOctets most text b =
     CanCarry Counted b × (length b ≤ most) × ((rest : List ℕ) × (text ≡ framed Counted b ++ rest))
 
+-- these counted octets, which the limit allows, come first, and then the rest
+pub record IsCountedFirst (most : ℕ) (text b rest : List ℕ) : Type 0 where
+  pub carries : CanCarry Counted b
+  pub fits : length b ≤ most
+  pub parts : text ≡ framed Counted b ++ rest
+
 -- the first octet with which no MSG-LEN and space goes on; or the length, where the entry is cut
 abbrev pub IsBadFrame : ℕ → List ℕ → ℕ → Type 0
 IsBadFrame most text at =
@@ -40,6 +46,14 @@ IsBadFrame most text at =
 abbrev pub IsTooLong : ℕ → List ℕ → Type 0
 IsTooLong most text =
     (count : ℕ) × (behind : List ℕ) × Follows (MsgLen count) text behind × (most < count)
+
+-- why a text begins with no counted octets
+abbrev pub IsCountFault : ℕ → List ℕ → ArchiveFault → Type 0
+IsCountFault most text (BadFrame at) = IsBadFrame most text at
+IsCountFault most text (EntryTooLong at) = (at ≡ 0) × IsTooLong most text
+IsCountFault most text (BadEntry at fault) = ⊥
+IsCountFault most text (NotCanonical at) = ⊥
+IsCountFault most text (NotAscending at) = ⊥
 
 -- why a text begins with no entry: the first cause that holds
 abbrev pub IsFaultBefore : ℕ → List ℕ → ArchiveFault → Type 0

@@ -16,5 +16,5 @@ pub use entry::{EntryView, compare};
 pub use fault::{ArchiveFault, EntryFault};
 pub use limits::ENTRY_MAX;
 pub use store::{AddFault, Added, Store};
-pub use validation::{entry_of_octets, read_entry};
+pub use validation::{counted_octets, entry_of_octets, read_entry};
 pub use writing::put_entry;

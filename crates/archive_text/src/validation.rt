@@ -3,7 +3,7 @@
 ghost use Rattle.std.specs.Prelude.{◌≡◌, IfOk, MatchResult};
 ghost use Rattle.archive_text.specs.Entries.{IsEntry};
 ghost use Rattle.archive_text.specs.EntryViews.{entry_of};
-ghost use Rattle.archive_text.specs.Faults.{IsEntryFault, IsFaultBefore};
+ghost use Rattle.archive_text.specs.Faults.{IsCountedFirst, IsCountFault, IsEntryFault, IsFaultBefore};
 ghost use Rattle.archive_text.specs.Text.{BeginsWithEntry};
 
 use crate::entry::EntryView;
@@ -30,12 +30,12 @@ pub fn entry_of_octets(octets: &[u8]) -> Result<EntryView<'_>, EntryFault>
     })
 }
 
-/// Reads the entry of at most `most` octets that a text begins with, and gives what follows it.
-/// Positions of the fault count from the start of this text.
-pub fn read_entry(most: u64, text: &[u8]) -> Result<(EntryView<'_>, &[u8]), ArchiveFault>
+/// Reads the octets that the count before them numbers, at most `most`, and gives what follows
+/// them (RFC 6587, section 3.4.1). Positions of the fault count from the start of this text.
+pub fn counted_octets(most: u64, text: &[u8]) -> Result<(&[u8], &[u8]), ArchiveFault>
     ensures { MatchResult result
-        (λ x. BeginsWithEntry most text.now (entry_of x.0) x.1.now)
-        (IsFaultBefore most text.now) }
+        (λ x. IsCountedFirst most text.now x.0.now x.1.now)
+        (IsCountFault most text.now) }
 {
     let (count, used) = match msg_len(text) {
         MsgLen::Whole { count, used } => (count, used),
@@ -54,6 +54,17 @@ pub fn read_entry(most: u64, text: &[u8]) -> Result<(EntryView<'_>, &[u8]), Arch
         });
     }
     let (octets, rest) = behind.split_at(count as usize);
+    Ok((octets, rest))
+}
+
+/// Reads the entry of at most `most` octets that a text begins with, and gives what follows it.
+/// Positions of the fault count from the start of this text.
+pub fn read_entry(most: u64, text: &[u8]) -> Result<(EntryView<'_>, &[u8]), ArchiveFault>
+    ensures { MatchResult result
+        (λ x. BeginsWithEntry most text.now (entry_of x.0) x.1.now)
+        (IsFaultBefore most text.now) }
+{
+    let (octets, rest) = counted_octets(most, text)?;
     match entry_of_octets(octets) {
         Ok(entry) => Ok((entry, rest)),
         Err(EntryFault::Bad(fault)) => Err(ArchiveFault::BadEntry { at: 0, fault }),

@@ -1,12 +1,9 @@
 -- A text is read entry by entry.
-use Rattle.std.proofs.Common.{arith, ◌≡◌, ℕ, ◌+◌, ◌<◌, ◌≤◌, List, ◌++◌, length, refl, ap, inl, inr}
+use Rattle.std.proofs.Common.{arith, ◌≡◌, ℕ, ◌+◌, ◌<◌, List, ◌++◌, length}
 use Rattle.std.specs.List.{AllByRecursion}
 use Rattle.archive_text.specs.Entries.{Entry, IsBelow}
-use Rattle.archive_text.specs.Faults.{IsFaultBefore, IsFaultBehind}
-use Rattle.archive_text.specs.Positions.{later, position_of}
+use Rattle.archive_text.specs.Faults.{IsFaultBehind}
 use Rattle.archive_text.specs.Text.{BeginsWithEntry, IsArchive, text_of}
-use Rattle.archive_text.specs.declared.fault.ArchiveFault.{ArchiveFault}
-use Rattle.archive_text.specs.declared.fault.ArchiveFault.TheVariants.{BadFrame, EntryTooLong, BadEntry, NotCanonical}
 use Rattle.archive_text.specs.declared.fault.ArchiveFault.TheVariants.{NotAscending}
 use Rattle.archive_text.specs.declared.limits.TheConstants.{ENTRY_MAX}
 use Rattle.archive_text.proofs.Ascending.{below_last}
@@ -14,26 +11,6 @@ use Rattle.archive_text.proofs.Prefixes.{archive_fault}
 use Rattle.archive_vec.specs.Reads.{IsFaultOn, IsReadFault}
 use Rattle.archive_vec.specs.declared.reading.ReadFault.{ReadFault}
 use Rattle.archive_vec.specs.declared.reading.ReadFault.TheVariants.{Bad, Memory}
-
--- a fault is within the text
-pub position_within : (most : ℕ) (rest : List ℕ) (fault : ArchiveFault) → IsFaultBefore most rest fault
-    → position_of fault ≤ length rest
-position_within most rest (BadFrame at) (inl (none, offset)) = offset.within
-position_within most rest (BadFrame at) (inr (count, behind, follows, low, cut, is)) = omega (arith, is)
-position_within most rest (EntryTooLong at) (is, h) = omega (arith, is)
-position_within most rest (BadEntry at fault) (is, h) = omega (arith, is)
-position_within most rest (NotCanonical at) (is, h) = omega (arith, is)
-position_within most rest (NotAscending at) h = absurd h
-
--- counted from the start of the text of the entries before it
-pub fault_behind : (most n : ℕ) (es : List Entry) (rest : List ℕ) (fault : ArchiveFault) → n ≡ length (text_of es)
-    → IsFaultBefore most rest fault
-    → IsFaultBehind most es rest (later n fault)
-fault_behind most n es rest (BadFrame at) start h = (at, h, ap (λ (m : ℕ). m + at) start)
-fault_behind most n es rest (EntryTooLong at) start (is, h) = (omega (arith, is, start), h)
-fault_behind most n es rest (BadEntry at fault) start (is, h) = (omega (arith, is, start), (refl, h))
-fault_behind most n es rest (NotCanonical at) start (is, h) = (omega (arith, is, start), (refl, h))
-fault_behind most n es rest (NotAscending at) start h = absurd h
 
 -- an entry that is not above all others
 pub not_ascending : (most n : ℕ) (es : List Entry) (e : Entry) (rest behind : List ℕ) → n ≡ length (text_of es)

@@ -73,15 +73,15 @@ spaced_form n w x (a, c, e, h, k) =
     e ∙ ap (λ (u : List ℕ). u ++ c) (nilable_form n w a h) ∙ ap (λ (u : List ℕ). word_form w ++ u) k
 
 -- a word, its space and the rest
-pub spaced : Option (List ℕ) → List ℕ → List ℕ
+unfoldable pub spaced : Option (List ℕ) → List ℕ → List ℕ
 spaced w rest = (word_form w ++ 32 ∷ []) ++ rest
 
-record Behind (s : ViewParts) : Type 0 where
-  end : List ℕ
-  parts : s.behind_time ≡ spaced s.hostname (spaced s.app_name (spaced s.proc_id (spaced s.msg_id (s.elements ++ end))))
-  message : MessagePart s.message end
+pub record Behind (s : ViewParts) : Type 0 where
+  pub end : List ℕ
+  pub parts : s.behind_time ≡ spaced s.hostname (spaced s.app_name (spaced s.proc_id (spaced s.msg_id (s.elements ++ end))))
+  pub message : MessagePart s.message end
 
-behind_form : (s : ViewParts) → BehindTime s s.behind_time → Behind s
+pub behind_form : (s : ViewParts) → BehindTime s s.behind_time → Behind s
 unfolding spaced
 behind_form s (x, y, e, (a, x1, ea, ha, (c, x2, ec, hc, (d, x3, ed, hd, hm))), (m, n, f, k, l)) = record {
   end = n;

@@ -5,3 +5,7 @@ pub mod Splitting
 pub mod Laying
 pub mod Finding
 pub mod Passing
+pub mod Placing
+pub mod Putting
+pub mod Heading
+pub mod Showing

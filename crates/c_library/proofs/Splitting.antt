@@ -27,6 +27,12 @@ element_parts v text behind (t, e, s) =
     (append_assoc v.id (v.params ++ 93 ∷ []) behind
     ∙ ap (λ (u : List ℕ). v.id ++ u) (append_assoc v.params (93 ∷ []) behind))
 
+-- the same by the octets of its id and of its parameters
+pub spanned_by : (v : ElementSpan) (id params text behind : List ℕ) → id ≡ v.id → params ≡ v.params
+    → Follows (SpannedElement v) text behind
+    → Follows (SpannedElement (record { id = id; params = params })) text behind
+spanned_by v id params text behind is are follows = rw (is, are) follows
+
 pub element_length : (id params behind text : List ℕ) → text ≡ 91 ∷ (id ++ (params ++ 93 ∷ behind))
     → length text ≡ 1 + length id + length params + 1 + length behind
 element_length id params behind text e =
@@ -68,7 +74,7 @@ param_text v t (a, b, e, h, (c, d, f, (n, i), (g, k, j, l, (m, o, p, q, (r, s, u
     (p ∙ ap (λ (z : List ℕ). z ++ o) q ∙ ap (λ (z : List ℕ). 34 ∷ z)
     (u ∙ ap (λ (z : List ℕ). z ++ s) x ∙ ap (λ (z : List ℕ). v.raw ++ z) y))))
 
-param_parts : (v : ParamSpan) (text behind : List ℕ) → Follows (SpannedParam v) text behind
+pub param_parts : (v : ParamSpan) (text behind : List ℕ) → Follows (SpannedParam v) text behind
     → text ≡ 32 ∷ (v.name ++ (61 ∷ 34 ∷ (v.raw ++ 34 ∷ behind)))
 param_parts v text behind (t, e, s) =
     e ∙ ap (λ (u : List ℕ). u ++ behind) (param_text v t s) ∙ ap (λ (u : List ℕ). 32 ∷ u)

@@ -25,7 +25,7 @@ Walked {V} A text rest passed =
 pub walked_none : {V : Type 0} (A : V → Language) (text : List ℕ) → Walked A text text 0
 walked_none A text items h = ([], items, refl, refl, h, ([], refl))
 
-nothing : (x : ℕ) (rest after : List ℕ) → rest ≡ x ∷ after → rest ≡ [] → ⊥
+pub nothing : (x : ℕ) (rest after : List ℕ) → rest ≡ x ∷ after → rest ≡ [] → ⊥
 nothing x rest after e h = let i : x ∷ after ≡ [] = sym e ∙ h in absurd cc
 
 pub walked_more : {V W : Type 0} (A : V → Language) (S : W → Language) → IsPrefixFree (AnyOf A)

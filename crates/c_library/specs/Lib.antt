@@ -8,3 +8,4 @@ pub mod Spans
 pub mod Parts
 pub mod Items
 pub mod Passing
+pub mod PartSpans

@@ -1,5 +1,5 @@
 -- The parts of a record as C sees them.
-use Rattle.std.specs.Prelude.{◌≡◌, ℕ, ℤ, pos, ◌+◌, ◌*◌, ◌<◌, List, length, Option, Some, None, option_map}
+use Rattle.std.specs.Prelude.{◌≡◌, ℕ, ℤ, pos, ◌+◌, ◌-◌, ◌*◌, ◌<◌, List, length, Option, Some, None, option_map}
 use Rattle.syslog_value.specs.Parts.{MessageParts, AnyOctets, Utf8Text, Parts}
 use Rattle.syslog_fields.specs.Canonical.{word_form}
 use Rattle.syslog_fields.specs.Grammar.{StructuredDataText, SyslogMsg}
@@ -18,13 +18,18 @@ pub record Spells (b : List ℕ) (p : Parts CivilTime) : Type 0 where
   pub in_range : IsInRange p
   pub distinct : AreDistinct p.elements
 
--- where the words and the structured data lie
+-- where the words and the structured data lie, one behind the other up to the end of the octets
 pub record IsLayout (b : List ℕ) (s : ViewParts) (l : Layout) : Type 0 where
   pub hostname : LiesAt b l.hostname (word_form s.hostname)
   pub app_name : LiesAt b l.app_name (word_form s.app_name)
   pub proc_id : LiesAt b l.proc_id (word_form s.proc_id)
   pub msg_id : LiesAt b l.msg_id (word_form s.msg_id)
   pub structured_data : LiesAt b l.structured_data s.elements
+  pub hostname_is : l.hostname ≡ length b - length s.behind_time
+  pub app_name_is : l.app_name ≡ l.hostname + length (word_form s.hostname) + 1
+  pub proc_id_is : l.proc_id ≡ l.app_name + length (word_form s.app_name) + 1
+  pub msg_id_is : l.msg_id ≡ l.proc_id + length (word_form s.proc_id) + 1
+  pub structured_data_is : l.structured_data ≡ l.msg_id + length (word_form s.msg_id) + 1
 
 -- an instant in microseconds, or none
 abbrev pub ShowsTime : Option ℤ → ℕ → ℤ → Type 0

@@ -5,6 +5,7 @@ ghost use Rattle.octet_language.specs.Language.{AnyOf};
 ghost use Rattle.octet_language.specs.Reading.{Follows};
 ghost use Rattle.syslog_value.specs.Parts.{ElementParts};
 ghost use Rattle.syslog_fields.specs.Grammar.{Element};
+ghost use Rattle.syslog_fields.specs.Spans.{SpannedElement};
 ghost use Rattle.c_library.specs.Items.{HasNoElement, IsElementNumber, IsFound, IsSplit};
 
 use crate::fault::SyslogboxFault;
@@ -39,16 +40,26 @@ pub struct FoundElement<'a> {
     pub params_at: usize,
 }
 
+/// The id of the element that comes first, the octets of its parameters, and what follows it.
+pub fn next_element(text: &[u8]) -> (&[u8], &[u8], &[u8])
+    requires { (after : List ℕ) × Follows (AnyOf Element) text.now after }
+    ensures { Follows (SpannedElement (record { id = result.0.now; params = result.1.now }))
+        text.now result.2.now }
+{
+    let (element, behind) = first_element(text);
+    let id = element.id();
+    let (_, from_params) = text.split_at(1 + id.len());
+    let (params, _) = from_params.split_at(from_params.len() - behind.len() - 1);
+    (id, params, behind)
+}
+
 /// The id of the element that comes first, and the octets of its parameters.
 fn split_element(text: &[u8]) -> (&[u8], &[u8])
     requires { (after : List ℕ) × Follows (AnyOf Element) text.now after }
     ensures { (e : ElementParts) (after : List ℕ) → Follows (Element e) text.now after
         → IsSplit e text.now result.0.now result.1.now }
 {
-    let (element, behind) = first_element(text);
-    let id = element.id();
-    let (_, from_params) = text.split_at(1 + id.len());
-    let (params, _) = from_params.split_at(from_params.len() - behind.len() - 1);
+    let (id, params, _behind) = next_element(text);
     (id, params)
 }
 

@@ -16,6 +16,8 @@ mod layout;
 mod legacy;
 mod numbers;
 mod param;
+mod part;
+mod part_spans;
 mod parts;
 mod pass;
 mod span;

@@ -90,3 +90,37 @@ pub const COUNTED: i32 = 1;
 
 /// A record and a line feed (RFC 6587, 3.4.2).
 pub const LF: i32 = 2;
+
+// enum syslogbox_part
+/// PRIVAL (RFC 5424, section 6.2.1).
+pub const PART_PRIORITY: u32 = 1;
+
+/// VERSION (6.2.2).
+pub const PART_VERSION: u32 = 2;
+
+/// TIMESTAMP (6.2.3).
+pub const PART_TIMESTAMP: u32 = 3;
+
+/// HOSTNAME (6.2.4).
+pub const PART_HOSTNAME: u32 = 4;
+
+/// APP-NAME (6.2.5).
+pub const PART_APP_NAME: u32 = 5;
+
+/// PROCID (6.2.6).
+pub const PART_PROC_ID: u32 = 6;
+
+/// MSGID (6.2.7).
+pub const PART_MSG_ID: u32 = 7;
+
+/// The id of an element (6.3.2).
+pub const PART_ELEMENT_ID: u32 = 8;
+
+/// The name of a parameter (6.3.3).
+pub const PART_PARAM_NAME: u32 = 9;
+
+/// The value of a parameter, as it is spelled between the quotation marks (6.3.3).
+pub const PART_PARAM_VALUE: u32 = 10;
+
+/// MSG without the BOM (6.4).
+pub const PART_MESSAGE: u32 = 11;

@@ -7,6 +7,8 @@ use crate::frame::syslogbox_proved_frame;
 use crate::legacy::syslogbox_proved_legacy;
 use crate::numbers::{COUNTED, LF, NO_FIELD, NO_ROOM, SYNTAX, VERSION};
 use crate::param::{SyslogboxParam, syslogbox_proved_param};
+use crate::part::SyslogboxPartSpan;
+use crate::part_spans::syslogbox_proved_spans;
 use crate::pass::syslogbox_proved_pass;
 use crate::span::SyslogboxSpan;
 use crate::value::syslogbox_proved_value;
@@ -92,4 +94,36 @@ fn archives_are_joined_and_packets_read(rt: HostRuntime) {
     assert!(rt; out.as_slice() == entry.as_slice());
     let answer = syslogbox_proved_legacy(rt.alloc(), 2024, 0, b"x", &mut out, &mut fault);
     assert!(rt; answer == 19 && out.as_slice() == b"<13>1 - - - - - - x".as_slice());
+}
+
+#[test]
+fn all_parts_are_shown_as_far_as_the_room_goes(rt: HostRuntime) {
+    let mut fault = no_fault();
+    let octets = b"<34>1 - h - - - [a x=\"1\" y=\"\"][b] \xef\xbb\xbfm";
+    let mut room = [SyslogboxPartSpan::new(0, 0, 0); 16];
+    assert!(rt; syslogbox_proved_spans(octets, &mut room[..15], &mut fault) == 14);
+    let rows = [
+        (1, 1, 2),
+        (2, 4, 1),
+        (3, 6, 1),
+        (4, 8, 1),
+        (5, 10, 1),
+        (6, 12, 1),
+        (7, 14, 1),
+        (8, 17, 1),
+        (9, 19, 1),
+        (10, 22, 1),
+        (9, 25, 1),
+        (10, 28, 0),
+        (8, 31, 1),
+        (11, 37, 1),
+        (0, 0, 0),
+    ];
+    for (row, shown) in rows.iter().zip(room.iter()) {
+        assert!(rt; shown.part == row.0 && shown.span.offset == row.1 && shown.span.len == row.2);
+    }
+    let mut small = [SyslogboxPartSpan::new(0, 0, 0); 2];
+    assert!(rt; syslogbox_proved_spans(octets, &mut small[..1], &mut fault) == 14);
+    assert!(rt; small[0].part == 1 && small[1].part == 0);
+    assert!(rt; syslogbox_proved_spans(b"<34>", &mut small, &mut fault) == -1);
 }

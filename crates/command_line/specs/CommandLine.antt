@@ -107,16 +107,36 @@ send_app =
     with_rule (with_rule (with_word_rules (with_send_defaults (new_app (codes "send")))) (option_rule (codes "micros")))
     (required_rule (codes "TEXT"))
 
--- the options for the priority
+-- the options of `select` on the priority: one severity, and any number of facilities
 abbrev pub with_priority_rules : App → App
 with_priority_rules a =
-    with_rule (with_rule a (option_rule (codes "severity"))) (option_rule (codes "facility"))
+    with_rule (with_rule a (option_rule (codes "severity"))) (list_rule (codes "facility"))
+
+-- its options on the words of the header
+abbrev pub with_header_rules : App → App
+with_header_rules a =
+    with_rule (with_rule (with_rule (with_rule a (list_rule (codes "host"))) (list_rule (codes "app")))
+    (list_rule (codes "proc"))) (list_rule (codes "msgid"))
+
+-- its options on elements and the message
+abbrev pub with_body_rules : App → App
+with_body_rules a = with_rule (with_rule a (list_rule (codes "id"))) (list_rule (codes "message"))
+
+-- its options that take patterns
+abbrev pub with_pattern_rules : App → App
+with_pattern_rules a = with_rule (with_rule a (list_rule (codes "host-like"))) (list_rule (codes "app-like"))
+
+-- its options for what records may not have
+abbrev pub with_not_rules : App → App
+with_not_rules a =
+    with_rule (with_rule (with_rule a (list_rule (codes "not-host"))) (list_rule (codes "not-app")))
+    (list_rule (codes "not-message"))
 
 -- the command that chooses records of an archive
 abbrev pub select_app : App
 select_app =
-    with_rule (with_word_rules (with_priority_rules (with_time_rules (new_app (codes "select")))))
-    (option_rule (codes "id"))
+    with_not_rules (with_pattern_rules (with_body_rules (with_header_rules (with_priority_rules
+    (with_time_rules (new_app (codes "select")))))))
 
 -- a command on the store in a folder
 abbrev pub folder_app : Text → App
@@ -190,7 +210,8 @@ with_set_commands a =
 
 -- the commands that read an archive as it comes
 abbrev pub with_stream_commands : App → App
-with_stream_commands a = with_subcommand (with_subcommand a select_app.top) digest_app.top
+with_stream_commands a =
+    with_subcommand (with_subcommand (with_subcommand a select_app.top) digest_app.top) (new_app (codes "root")).top
 
 -- all commands of archives
 abbrev pub with_archives : App → App

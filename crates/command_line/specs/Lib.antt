@@ -1,5 +1,5 @@
 pub mod CommandLine
 pub mod Names
+pub mod Ranges
 pub mod Requests
-pub mod Selects
 pub mod Tables

@@ -14,7 +14,8 @@ use Rattle.collect_engine.specs.declared.collect_words.Transport.{Transport}
 use Rattle.collect_engine.specs.declared.collect_words.Transport.TheVariants as transport
 use Rattle.command_line.specs.CommandLine.{line_app}
 use Rattle.command_line.specs.Names.{period_of}
-use Rattle.command_line.specs.Selects.{ConditionsAsked, conditions_asked, conditions_in, range_in}
+use Rattle.command_line.specs.Ranges.{range_in}
+use Rattle.condition_words.specs.Conditions.{ConditionsAsked, conditions_asked, conditions_in}
 use Rattle.option_values.specs.Numbers.{number_in}
 use Rattle.option_values.specs.Readings.{reading_in}
 use Rattle.option_values.specs.Values.{is_given_in}
@@ -52,6 +53,7 @@ pub data Asked : Type 0 where
   Diff : Text → Text → Asked
   Select : ConditionsAsked → Asked
   Digest : Period → Asked
+  Root : Asked
   Send : OptionTexts → Asked
   Collect : CollectWords → Asked
   -- folders
@@ -87,6 +89,7 @@ asked_by (request.SpillArchive input_framing way dir memory) = SpillArchive way 
 asked_by (request.Files r) = files_asked r
 asked_by (request.Select conditions) = Select (conditions_asked conditions)
 asked_by (request.Digest period) = Digest period
+asked_by request.Root = Root
 asked_by (request.Send options) = Send (texts_of options)
 asked_by (request.Collect words) = Collect words
 asked_by (request.Read dir range) = Read dir.now range
@@ -258,8 +261,15 @@ read_store name rows =
 abbrev pub read_serve : List Row → Option Asked
 read_serve rows = option_map (λ words. Serve words) (serve_in rows)
 
+-- the request of a subcommand that reads an archive as it comes, of `send`, or of one on a store
+abbrev pub read_further : Text → List Row → Option Asked
+read_further name rows =
+    if bytes_eq name (codes "digest") then read_digest rows
+    else (if bytes_eq name (codes "root") then Some Root
+    else (if bytes_eq name (codes "send") then read_send rows else read_store name rows))
+
 -- the request of any other subcommand
-abbrev pub read_other : Text → List Row → Option Asked
+unfoldable pub read_other : Text → List Row → Option Asked
 read_other name rows =
     if bytes_eq name (codes "check") then read_check rows
     else (if bytes_eq name (codes "convert") then read_convert rows
@@ -270,16 +280,15 @@ read_other name rows =
     else (if bytes_eq name (codes "common") then read_common rows
     else (if bytes_eq name (codes "minus") then read_minus rows
     else (if bytes_eq name (codes "diff") then read_diff rows
-    else (if bytes_eq name (codes "select") then read_select rows
-    else (if bytes_eq name (codes "digest") then read_digest rows
-    else (if bytes_eq name (codes "send") then read_send rows else read_store name rows)))))))))))
+    else read_further name rows))))))))
 
 -- the request of a subcommand with the values of its options
 abbrev pub read_of : Text × List Row → Option Asked
 read_of (name, rows) =
     if bytes_eq name (codes "collect") then option_map (λ words. Collect words) (read_collect rows)
     else (if bytes_eq name (codes "union") then read_union rows
-    else (if bytes_eq name (codes "serve") then read_serve rows else read_other name rows))
+    else (if bytes_eq name (codes "select") then read_select rows
+    else (if bytes_eq name (codes "serve") then read_serve rows else read_other name rows)))
 
 -- the subcommand with the values of its options, where the parse has no fault
 abbrev pub rows_where : Kinds → Option (Text × List Row) → Option (Text × List Row)

@@ -75,6 +75,8 @@ pub enum Request<'a> {
     Digest {
         period: Period,
     },
+    /// `root`: how many records an archive has, and their Merkle tree hash.
+    Root,
     /// `send`: one record, as a frame.
     Send {
         options: SendOptions<'a>,

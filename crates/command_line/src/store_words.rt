@@ -4,7 +4,7 @@ ghost use Rattle.std.specs.Prelude.{◌≡◌, option_map};
 ghost use Rattle.std.specs.Result.{result_ok};
 ghost use Rattle.clap.specs.Words.{found_of, rows_of};
 ghost use Rattle.command_line.specs.Requests.{asked_by, read_compact, read_read, read_store, read_verify};
-ghost use Rattle.command_line.specs.Selects.{range_in};
+ghost use Rattle.command_line.specs.Ranges.{range_in};
 
 use crate::request::Request;
 use archive_sets::InRange;

@@ -3,7 +3,8 @@
 ghost use Rattle.std.specs.Prelude.{◌≡◌, map, option_map, option_and_then, IfOk, IfErr, Some, None};
 ghost use Rattle.std.specs.Result.{result_ok};
 ghost use Rattle.clap.specs.Words.{found_of, rows_of, subcommand_rows_of};
-ghost use Rattle.command_line.specs.Requests.{Collect, IsUsage, asked_by, parsed, read_collect, read_of, read_other};
+ghost use Rattle.command_line.specs.Requests.{Collect, IsUsage, asked_by, parsed, read_collect, read_further, read_of};
+ghost use Rattle.command_line.specs.Requests.{read_other};
 
 use crate::collecting::read_collect_words;
 use crate::digest_words::read_digest_words;
@@ -55,7 +56,25 @@ fn read_collect_request<'a>(matches: &ArgMatches<'a>) -> Result<Request<'a>, Ref
     Ok(Request::Collect { words })
 }
 
+// The request of a command that reads an archive as it comes, of `send`, or of one on a store, by its
+// name.
+fn read_further_words<'a>(
+    name: &str,
+    matches: &ArgMatches<'a>,
+) -> Result<Request<'a>, Refusal<'a>>
+    ensures { option_map asked_by (result_ok result)
+        ≡ read_further name.now (rows_of (found_of matches.now)) }
+{
+    match name {
+        "digest" => read_digest_words(matches),
+        "root" => Ok(Request::Root),
+        "send" => read_send_words(matches),
+        _ => read_store_words(name, matches),
+    }
+}
+
 // The request of any other command, by its name.
+#[tactic(auto, unfolding(crate::specs::Requests::read_other))]
 fn read_other_words<'a>(name: &str, matches: &ArgMatches<'a>) -> Result<Request<'a>, Refusal<'a>>
     ensures { option_map asked_by (result_ok result)
         ≡ read_other name.now (rows_of (found_of matches.now)) }
@@ -70,10 +89,7 @@ fn read_other_words<'a>(name: &str, matches: &ArgMatches<'a>) -> Result<Request<
         "common" => read_common_words(matches),
         "minus" => read_minus_words(matches),
         "diff" => read_diff_words(matches),
-        "select" => read_select_words(matches),
-        "digest" => read_digest_words(matches),
-        "send" => read_send_words(matches),
-        _ => read_store_words(name, matches),
+        _ => read_further_words(name, matches),
     }
 }
 
@@ -91,6 +107,7 @@ fn asked_for<'a>(
     match name {
         "collect" => Ok(read_collect_request(inner)),
         "union" => read_union_words(alloc, inner),
+        "select" => read_select_words(alloc, inner),
         "serve" => read_serve_request(alloc, inner),
         _ => Ok(read_other_words(name, inner)),
     }

@@ -27,7 +27,7 @@ use Rattle.archive_engine.specs.Archived.{archive_handling, archive_meaning}
 use Rattle.archive_engine.proofs.ArchiveLemmas.{archive_laws}
 use Rattle.archive_sets.specs.declared.fault.SelectFault.TheVariants.{Memory as select_Memory}
 use Rattle.command_line.specs.Requests.{Archive, Asked, Check, Collect, Common, Compact, Convert, Diff, Digest, Merge}
-use Rattle.command_line.specs.Requests.{Migrate, Minus, Read, Select, Send, Serve, Show, SpillArchive, Union, Verify}
+use Rattle.command_line.specs.Requests.{Migrate, Minus, Read, Root, Select, Send, Serve, Show, SpillArchive, Union, Verify}
 use Rattle.command_line.specs.Requests.{IsUsage, frames_asked, frames_by}
 use Rattle.command_line.specs.declared.request.FrameCommand.{FrameCommand}
 use Rattle.command_line.specs.declared.request.FrameCommand.TheVariants as frames
@@ -136,6 +136,12 @@ unstarted_as (Digest period) stored old d status t = record {
     record { xs = []; parts = []; read = tt; divided = record { each = tt; all = refl }; written = tt },
     inl t,
   );
+  failures = record { reader = refl; writer = refl };
+  memory = λ _. (refl, refl);
+}
+unstarted_as Root stored old d status t = record {
+  ending = Some select_Memory;
+  outcome = (tt, inl t);
   failures = record { reader = refl; writer = refl };
   memory = λ _. (refl, refl);
 }

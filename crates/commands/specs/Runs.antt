@@ -18,12 +18,13 @@ use Rattle.archive_engine.specs.Merged.{RanMerge, merge_devices}
 use Rattle.archive_engine.specs.Migrated.{RanMigrate}
 use Rattle.archive_sets.specs.Together.{MeetsAll}
 use Rattle.archive_sets.specs.declared.conditions.Conditions.{Conditions}
-use Rattle.command_line.specs.Selects.{ConditionsAsked, conditions_asked}
+use Rattle.condition_words.specs.Conditions.{ConditionsAsked, conditions_asked}
 use Rattle.command_line.specs.Requests.{Archive, Asked, Check, Collect, Common, Compact, Convert, Diff, Digest, Merge}
-use Rattle.command_line.specs.Requests.{Migrate, Minus, Read, Select, Send, Serve, Show, SpillArchive, Union, Verify}
+use Rattle.command_line.specs.Requests.{Migrate, Minus, Read, Root, Select, Send, Serve, Show, SpillArchive, Union, Verify}
 use Rattle.command_line.specs.declared.words.WordsFault.{WordsFault}
 use Rattle.command_line.specs.declared.words.WordsFault.TheVariants.{Usage, Memory as OutOfMemory}
 use Rattle.send_engine.specs.Sending.{RanSend}
+use Rattle.proof_engine.specs.Rooted.{RanRoot}
 use Rattle.set_engine.specs.Digesting.{RanDigest}
 use Rattle.set_engine.specs.Selecting.{RanSelect}
 use Rattle.set_engine.specs.declared.combination.Combination.TheVariants as combination
@@ -94,6 +95,7 @@ RanAs (Diff left right) stored old new status =
     RanJoinFiles combination.Diff stored (left ∷ right ∷ []) old.output new.output old.diagnostics new.diagnostics status
 RanAs (Select asked) stored old new status = RanSelectBy asked old new status
 RanAs (Digest period) stored old new status = RanDigest period old new status
+RanAs Root stored old new status = RanRoot old new status
 RanAs (Migrate file) stored old new status =
     RanMigrateFile stored file old.output new.output old.diagnostics new.diagnostics status
 RanAs (Send texts) stored old new status =
@@ -124,6 +126,7 @@ ReadsInput (Minus left right) = ⊥
 ReadsInput (Diff left right) = ⊥
 ReadsInput (Select conditions) = Unit {0}
 ReadsInput (Digest period) = Unit {0}
+ReadsInput Root = Unit {0}
 ReadsInput (Migrate file) = ⊥
 ReadsInput (Send texts) = ⊥
 ReadsInput (SpillArchive way framing dir memory) = ⊥

@@ -21,6 +21,7 @@ use command_line::{FileRequest, FrameCommand, FrameRequest, Request, WordsFault,
 use driver::{FAULT, NO_MEMORY, report};
 use frame_engine::{Check, CheckSummary, Convert, InputFraming, Show, ShowJson, Tally, scan_input};
 use octet_devices::{Input, Output};
+use proof_engine::root_archive;
 use send_engine::send_text;
 use set_engine::{Combination, digest_archive, select_archive};
 use std::alloc::Global;
@@ -232,6 +233,7 @@ pub fn run_request<R: Input, W: Output, N: Output, F: Files>(
             select_archive(alloc, &conditions, input, output, diagnostics)
         }
         Request::Digest { period } => digest_archive(alloc, period, input, output, diagnostics),
+        Request::Root => root_archive(alloc, input, output, diagnostics),
         Request::Send { options } => send_text(alloc, &options, output, diagnostics),
         // only `main` has these
         Request::SpillArchive { .. } => report(diagnostics, b"spill fault\n", FAULT),

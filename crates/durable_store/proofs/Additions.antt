@@ -13,7 +13,7 @@ use Rattle.archive_text.specs.declared.store.Added.TheVariants.{New, Held}
 use Rattle.archive_text.proofs.Members.{has_either, has_left, has_right}
 use Rattle.archive_text.proofs.Places.{adds_has}
 use Rattle.archive_text.proofs.Shown.{shown_entry}
-use Rattle.archive_pages.proofs.Records.{one_entry}
+use Rattle.archive_text.proofs.Texts.{one_entry_of as one_entry}
 use Rattle.record_store.specs.Holdings.{JournalHas}
 use Rattle.record_store.specs.Stores.{IsSameButBatch, Sets, Stands as JournalStands, batch_of, with_waiting}
 use Rattle.record_store.specs.declared.store.RecordStore.{RecordStore}

@@ -1,4 +1,5 @@
 pub mod Additions
+pub mod Asides
 pub mod Daily
 pub mod Failing
 pub mod Growth

@@ -1,6 +1,6 @@
 -- The newest journal is brought into memory, and then opened.
 use Rattle.std.proofs.Common.{◌≡◌, inl, inr, ℕ, List, [], sym, ap, subst, ◌∙◌}
-use Rattle.std.specs.Prelude.{◌↔◌, IfSome, Option, Some}
+use Rattle.std.specs.Prelude.{◌↔◌, IfNone, IfSome, None, Option, Some}
 use Rattle.disk.specs.Calls.{IsUnchanged}
 use Rattle.disk.specs.States.{State}
 use Rattle.journal.specs.Batches.{batches_text, HasBatches}
@@ -22,14 +22,17 @@ use Rattle.durable_store.proofs.Additions.{recovered}
 pub at_some : {T : Type 0} (found : Option T) (x : T) (P : T → Type 0) → found ≡ Some x → IfSome found P → P x
 at_some found x P is some = subst (λ o. IfSome o P) is some
 
+pub at_none : {T : Type 0} (found : Option T) (P : Type 0) → found ≡ None → IfNone found P → P
+at_none found P is none = subst (λ o. IfNone o P) is none
+
 -- a read shows one file as the newest journal
-one_shown : (state : State) (number n : ℕ) (octets others : List ℕ) → IsNewestShown state number octets
+pub one_shown : (state : State) (number n : ℕ) (octets others : List ℕ) → IsNewestShown state number octets
     → IsNewestShown state n others → octets ≡ others
 one_shown state number n octets others one other =
     let is : number ≡ n = newest_one state number n octets others one other in
     let same : Some octets ≡ Some others = sym one.shown ∙ ap (journal_shown state) is ∙ other.shown in cc same
 
-not_both : (state : State) (number : ℕ) (octets : List ℕ) → IsNewestShown state number octets → ShowsNoJournal state → ⊥
+pub not_both : (state : State) (number : ℕ) (octets : List ℕ) → IsNewestShown state number octets → ShowsNoJournal state → ⊥
 not_both state number octets newest none = absurd (cc (newest.shown, none number newest.small))
 
 pub found_recovered : (state : State) (number : ℕ) (octets shown : List ℕ) (none mid : List Entry)
@@ -68,21 +71,3 @@ recovered_has state es number text r (inl gives) e =
     (λ held. two.0 (one.0 held), λ held. one.1 (two.1 held))
 recovered_has state es number text r (inr none) e =
     (λ held. absurd (r.none none.0 e held), λ held. absurd (nothing_has text e none.2 held))
-
--- ---- nothing has changed meanwhile
-
-pub gives_before : (zero one : State) (number : ℕ) (text : List ℕ) → IsUnchanged zero one
-    → GivesNewest one number text → GivesNewest zero number text
-gives_before zero one number text same (inl gives) = inl (gives_still zero one same number text gives)
-gives_before zero one number text same (inr none) =
-    let back : IsUnchanged one zero = record { entries = λ name. sym (same.entries name); lost = sym same.lost } in
-    inr (none_still one zero back none.0, none.1, none.2)
-
-pub opening_before : (zero one : State) (tells failed : Type 0) → (tells → IsUnchanged zero one) → (fault : StoreFault)
-    → IsCause (opening_causes tells failed one) fault → IsCause (opening_causes tells failed zero) fault
-opening_before zero one tells failed same =
-    cause_weaker (opening_causes tells failed one) (opening_causes tells failed zero)
-    (λ failed. failed) (λ full. full)
-    (λ other told sound. other told ((same told).lost ∙ sound))
-    (λ long told sound. too_long_still zero one (same told) (long told ((same told).lost ∙ sound)))
-    (λ broken. broken)

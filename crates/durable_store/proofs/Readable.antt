@@ -11,7 +11,7 @@ use Rattle.syslog_value.specs.Parts.{Parts}
 use Rattle.syslog_reading.specs.WellFormed.{WellFormed}
 use Rattle.syslog_grammar.proofs.CanonicalParses.{canonical_well_formed}
 use Rattle.disk.specs.States.{State}
-use Rattle.journal.specs.Journals.{IsSound}
+use Rattle.journal.specs.Journals.{EndsAt, IsSound}
 use Rattle.archive_text.specs.Entries.{Entry, IsEntry, IsEntryOf}
 use Rattle.archive_text.specs.Faults.{IsFaultBefore}
 use Rattle.archive_text.specs.Text.{text_of}
@@ -20,10 +20,12 @@ use Rattle.archive_text.specs.declared.store.AddFault.{AddFault}
 use Rattle.archive_text.specs.declared.limits.TheConstants.{ENTRY_MAX}
 use Rattle.archive_text.proofs.FaultLaws.{fault_later}
 use Rattle.archive_text.proofs.Prefixes.{fault_excludes}
-use Rattle.record_store.specs.Holdings.{IsReadable, IsWholeJournal}
+use Rattle.record_store.specs.Holdings.{IsReadable, IsSealedBatch, IsWholeJournal, SomeIsSealed}
+use Rattle.record_store.specs.Holdings.{StaySealed}
 use Rattle.record_store.specs.Seals.{HasMore, HidesBatches, Seals}
 use Rattle.record_store.specs.Shown.{IsNewestShown}
 use Rattle.record_store.proofs.Sealed.{RestOf, begins_some, rest_of, rest_seals}
+use Rattle.record_store.proofs.Unsealed.{sealed_next}
 use Rattle.durable_store.specs.Causes.{IsOpeningCause}
 use Rattle.durable_store.specs.Recovery.{BeginsWithSome, Refutes}
 use Rattle.durable_store.specs.declared.fault.OpenFault.{OpenFault}
@@ -83,12 +85,12 @@ not_sealed old new body rest b text is none bad h =
 -- the first batch of a whole journal, and what is behind it
 pub whole_parts : (rest body behind : List ℕ) → IsBody body → rest ≡ open_batch body ++ behind → IsWholeJournal rest
     → IsReadable body × IsWholeJournal behind
-whole_parts rest body behind sized is w = of w.bodies w.batches w.readable w.nothing_hidden
+whole_parts rest body behind sized is w = of w.bodies w.batches w.readable w.stay_sealed w.nothing_hidden
   where
     of : (bodies : List (List ℕ)) (h : HasBatches rest bodies) → AllByRecursion IsReadable bodies
-        → ¬ (HidesBatches h.tail) → IsReadable body × IsWholeJournal behind
-    of [] h all shows = absurd (h.closed body behind sized (sym h.text ∙ is))
-    of (b ∷ bodies) h all shows =
+        → StaySealed bodies → ¬ (HidesBatches h.tail) → IsReadable body × IsWholeJournal behind
+    of [] h all stay shows = absurd (h.closed body behind sized (sym h.text ∙ is))
+    of (b ∷ bodies) h all stay shows =
         let same = same_batch body b behind (batches_text bodies ++ h.tail) sized h.sized.0
         (sym is ∙ h.text ∙ append_assoc (open_batch b) (batches_text bodies) h.tail) in (
           subst IsReadable (sym same.0) all.0,
@@ -96,6 +98,7 @@ whole_parts rest body behind sized is w = of w.bodies w.batches w.readable w.not
             bodies = bodies;
             batches = record { tail = h.tail; text = same.1; closed = h.closed; sized = h.sized.1 };
             readable = all.1;
+            stay_sealed = stay.1;
             nothing_hidden = shows;
           },
         )
@@ -121,8 +124,32 @@ journal_read old new file rest j closed shows = record {
   bodies = j.bodies;
   batches = record { tail = rest; text = j.parts; closed = closed; sized = j.sized };
   readable = j.readable;
+  stay_sealed = j.stay;
   nothing_hidden = shows;
 }
+
+-- a batch without its seal is behind one that has it
+pub not_sealed_on : (old new : List Entry) (file rest body behind : List ℕ) (j : JournalAdded old new file rest)
+    → IsBody body × (rest ≡ open_batch body ++ behind) → SomeIsSealed j.bodies → ¬ (IsSealedBatch body)
+    → ¬ (IsWholeJournal file)
+not_sealed_on old new file rest body behind j (sized, is) some unsealed w =
+    let parts = j.parts ∙ ap (λ (t : List ℕ). batches_text j.bodies ++ t) is
+    ∙ sym (append_assoc (batches_text j.bodies) (open_batch body) behind) in
+    unsealed (sealed_next file j.bodies w.bodies body behind j.sized sized parts w.batches w.stay_sealed some)
+
+-- where the batches end
+pub ends_read : (old new : List Entry) (file rest : List ℕ) (end : ℕ) → JournalAdded old new file rest → IsClosed rest
+    → end ≡ length file - length rest → (bodies : List (List ℕ)) × EndsAt file bodies end
+ends_read old new file rest end j closed is = (
+  j.bodies,
+  record {
+    tail = rest;
+    text = j.parts;
+    closed = closed;
+    sized = j.sized;
+    end_is = omega (arith, is, ap length j.parts, length-append (batches_text j.bodies) rest);
+  },
+)
 
 -- no batch is at the beginning of a whole journal: it is the tail
 tail_shows : (rest : List ℕ) → IsClosed rest → IsWholeJournal rest → ¬ (HidesBatches rest)

@@ -1,7 +1,7 @@
 -- The entries of batches are added to a set.
-use Rattle.std.proofs.Common.{◌≡◌, ◌⊎◌, ℕ, ◌<◌, ◌≤◌, List, [], ◌∷◌, ◌++◌, length, take, drop, inl, inr}
+use Rattle.std.proofs.Common.{◌≡◌, ◌≢◌, ◌⊎◌, ℕ, ◌<◌, ◌≤◌, List, [], ◌∷◌, ◌++◌, length, take, drop, inl, inr}
 use Rattle.std.proofs.Common.{refl, sym, ap, subst, ◌∙◌, append_assoc, arith, length-append}
-use Rattle.std.specs.Prelude.{◌↔◌, ℤ}
+use Rattle.std.specs.Prelude.{◌↔◌, ℤ, Bool, IsTrue, false}
 use Rattle.std.specs.Int.{to_le_bytes, w32}
 use Rattle.std.specs.List.{AllByRecursion}
 use Rattle.std.proofs.lemmas.List.{take_at, drop_at}
@@ -20,9 +20,11 @@ use Rattle.archive_text.specs.declared.store.Added.{Added}
 use Rattle.archive_text.proofs.Members.{all_append, has_either, has_left, has_right}
 use Rattle.archive_text.proofs.Places.{adds_has}
 use Rattle.archive_text.proofs.Texts.{one_entry_of, text_goes_on, text_some}
-use Rattle.record_store.specs.Holdings.{BatchHas, BatchesHave, IsBatch, IsReadable, JournalHas}
+use Rattle.record_store.specs.Holdings.{BatchHas, BatchesHave, IsBatch, IsReadable, IsSealedBatch, JournalHas, SomeIsSealed}
+use Rattle.record_store.specs.Holdings.{StaySealed}
 use Rattle.record_store.specs.Seals.{Seals}
 use Rattle.record_store.proofs.Batches.{batch_has, journal_has, push_has, pushed_either, pushed_has}
+use Rattle.record_store.proofs.Unsealed.{seal_some, sealed_either, sealed_last, stay_push}
 use Rattle.durable_store.specs.Recovery.{Adds}
 
 -- ---- an entry
@@ -118,6 +120,16 @@ batch_whole old new body rest b seal =
     adds_same old new (Has b.entries) (BatchHas body)
     (λ e. (λ h. record { entries = b.entries; batch = batch; has = h }, λ h. batch_has b.entries body e batch h)) b.adds
 
+-- it has its seal where something is left
+pub batch_sealed : (old new : List Entry) (body rest : List ℕ) (b : BatchAdded old new body rest)
+    → Seals (text_of b.entries) rest → IsSealedBatch body ↔ (rest ≢ [])
+unfolding added_batch
+batch_sealed old new body rest b seal =
+    let batch = added_batch old new body rest b seal in (
+      λ h. seal_some b.entries body batch h,
+      λ some. record { entries = b.entries; batch = batch; some = some },
+    )
+
 -- ---- a journal
 
 -- the batches before the rest of a journal were added
@@ -127,6 +139,7 @@ pub record JournalAdded (old new : List Entry) (file rest : List ℕ) : Type 0 w
   pub parts : file ≡ batches_text bodies ++ rest
   pub adds : Adds old new (BatchesHave bodies)
   pub readable : AllByRecursion IsReadable bodies
+  pub stay : StaySealed bodies
 
 pub journal_begun : (old : List Entry) (file : List ℕ) → JournalAdded old old file file
 journal_begun old file = record {
@@ -135,6 +148,7 @@ journal_begun old file = record {
   parts = refl;
   adds = adds_none old (BatchesHave []) (λ e h. h);
   readable = tt;
+  stay = tt;
 }
 
 all_pushed : (bodies : List (List ℕ)) (body : List ℕ) → AllByRecursion IsReadable bodies → IsReadable body
@@ -170,10 +184,10 @@ batch_parts rest behind body after len b behind_is body_is after_is =
           (sym last),
     )
 
-pub journal_more : (old mid new : List Entry) (file rest body after : List ℕ) → JournalAdded old mid file rest
+pub journal_more : (old mid new : List Entry) (file rest body after : List ℕ) (j : JournalAdded old mid file rest)
     → IsBody body × (rest ≡ open_batch body ++ after) → Adds mid new (BatchHas body) → IsReadable body
-    → JournalAdded old new file after
-journal_more old mid new file rest body after j (sized, is) adds readable = record {
+    → (SomeIsSealed j.bodies → IsSealedBatch body) → JournalAdded old new file after
+journal_more old mid new file rest body after j (sized, is) adds readable last = record {
   bodies = j.bodies ++ body ∷ [];
   sized = sized_push j.bodies body j.sized sized;
   parts = j.parts ∙ ap (λ (t : List ℕ). batches_text j.bodies ++ t) is
@@ -184,7 +198,36 @@ journal_more old mid new file rest body after j (sized, is) adds readable = reco
         λ h. elim h [ inl k ↦ pushed_has j.bodies body e k | inr k ↦ push_has j.bodies body e k ],
       ));
   readable = all_pushed j.bodies body j.readable readable;
+  stay = stay_push j.bodies body j.stay last;
 }
+
+-- and whether some of them has its seal is known
+pub record JournalReadUpTo (old new : List Entry) (file rest : List ℕ) (has_seals : Bool) : Type 0 where
+  pub added : JournalAdded old new file rest
+  pub seals : IsTrue has_seals ↔ SomeIsSealed added.bodies
+
+pub read_begun : (old : List Entry) (file : List ℕ) → JournalReadUpTo old old file file false
+unfolding journal_begun
+read_begun old file = record { added = journal_begun old file; seals = (λ on. absurd (cc on), λ none. absurd none) }
+
+pub read_more : (old mid new : List Entry) (file rest body after : List ℕ) (has_seals : Bool)
+    → JournalReadUpTo old mid file rest has_seals → IsBody body × (rest ≡ open_batch body ++ after)
+    → Adds mid new (BatchHas body) → IsReadable body → (sealed : Bool) → (IsTrue sealed ↔ IsSealedBatch body)
+    → (IsTrue has_seals → IsTrue sealed) → JournalReadUpTo old new file after sealed
+unfolding journal_more
+read_more old mid new file rest body after has_seals r first adds readable sealed tells goes_on =
+    let j = r.added in
+    record {
+      added = journal_more old mid new file rest body after j first adds readable
+          (λ some. tells.0 (goes_on (r.seals.1 some)));
+      seals = (
+        λ on. sealed_last j.bodies body (tells.0 on),
+        λ some. elim (sealed_either j.bodies body some) [
+          | inl before ↦ goes_on (r.seals.1 before)
+          | inr last ↦ tells.1 last
+        ],
+      );
+    }
 
 -- it is shorter then
 pub shorter_rest : (rest body after : List ℕ) → IsBody body × (rest ≡ open_batch body ++ after)

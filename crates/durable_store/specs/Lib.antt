@@ -1,3 +1,4 @@
+pub mod Asides
 pub mod Causes
 pub mod Durables
 pub mod Recovery

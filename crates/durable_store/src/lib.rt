@@ -10,13 +10,17 @@
 #![tactic(auto)]
 
 mod adding;
+mod aside;
 mod checkpoint;
 mod fault;
 mod mixed;
+mod read_journal;
 mod recovery;
 mod segments;
 mod shares;
 mod store;
 
+pub use aside::SetAside;
 pub use fault::{CheckpointFault, OpenFault};
+pub use recovery::check_newest;
 pub use store::DurableStore;

@@ -1,17 +1,20 @@
 //! The entries of a journal's batches are brought into memory.
-ghost use Rattle.std.specs.Prelude.{◌≡◌, ◌≤◌, ◌++◌, IfErr, IfNone, IfOk, IfSome, OnOk, length};
+ghost use Rattle.std.specs.Prelude.{◌≡◌, ◌≤◌, ◌++◌, ◌↔◌, IfErr, IfNone, IfOk, IfSome, IsTrue, List, OnOk, length, ℕ};
 ghost use Rattle.disk.specs.Calls.{IsUnchanged};
 ghost use Rattle.journal.specs.Batches.{IsBody, IsClosed, open_batch};
-ghost use Rattle.journal.specs.Journals.{IsSound};
+ghost use Rattle.journal.specs.Journals.{EndsAt, IsSound};
 ghost use Rattle.archive_pages.specs.Paged.{entries_in};
 ghost use Rattle.archive_text.specs.Entries.{IsEntry};
 ghost use Rattle.archive_text.specs.EntryViews.{entry_of};
-ghost use Rattle.record_store.specs.Holdings.{BatchHas, IsReadable, IsWholeJournal, JournalHas};
+ghost use Rattle.record_store.specs.Holdings.{BatchHas, IsReadable, IsSealedBatch, IsWholeJournal, JournalHas};
+ghost use Rattle.record_store.specs.Shown.{IsNewestShown};
+ghost use Rattle.durable_store.specs.Asides.{IsRead};
 ghost use Rattle.durable_store.specs.Causes.{IsOpeningCause};
 ghost use Rattle.durable_store.specs.Recovery.{Adds, AddsFirst, BeginsWithSome, IsRecovered};
 ghost use Rattle.durable_store.specs.Recovery.{Refutes};
 
 use crate::fault::OpenFault;
+use crate::read_journal::ReadJournal;
 use archive_pages::PagedArchive;
 use archive_text::{AddFault, ArchiveFault, ENTRY_MAX, EntryView, Store, read_entry};
 use disk::Disk;
@@ -73,16 +76,18 @@ fn add_first<'a>(
     }
 }
 
-// Adds the entries of a batch, which begins at an offset of its journal.
+// Adds the entries of a batch, which begins at an offset of its journal, and gives whether it has its
+// seal.
 fn add_batch(
     alloc: Global,
     set: &mut PagedArchive,
     body: &[u8],
     number: u64,
     offset: u64,
-) -> Result<(), OpenFault>
+) -> Result<bool, OpenFault>
     ensures adds { OnOk result (Adds (entries_in set.old) (entries_in set.new) (BatchHas body.now)) }
     ensures whole { OnOk result (IsReadable body.now) }
+    ensures sealed { IfOk result (λ sealed. IsTrue sealed ↔ IsSealedBatch body.now) }
     ensures fault { IfErr result (Refutes number (IsReadable body.now)) }
 {
     let mut rest = body;
@@ -93,7 +98,7 @@ fn add_batch(
     let read = body.len().saturating_sub(rest.len());
     let (text, _) = body.split_at(read);
     if seals(text, rest) {
-        return Ok(());
+        return Ok(!rest.is_empty());
     }
     let at = offset.saturating_add(read as u64);
     let fault = JournalDamage::Checksum { at };
@@ -111,44 +116,82 @@ fn first_batch(octets: &[u8]) -> Option<(&[u8], &[u8])>
     Some(behind.split_at(len))
 }
 
-// Adds the entries of all batches of the journal with this number.
+// Adds the entries of all batches of the journal with this number, and gives where these end.
 fn add_batches(
     alloc: Global,
     set: &mut PagedArchive,
     file: &[u8],
     number: u64,
-) -> Result<(), OpenFault>
+) -> Result<usize, OpenFault>
     ensures adds { OnOk result (Adds (entries_in set.old) (entries_in set.new) (JournalHas file.now)) }
     ensures whole { OnOk result (IsWholeJournal file.now) }
+    ensures within { IfOk result (λ end. end ≤ length file.now) }
+    ensures ends { IfOk result (λ end. (bodies : List (List ℕ)) × EndsAt file.now bodies end) }
     ensures fault { IfErr result (Refutes number (IsWholeJournal file.now)) }
 {
     let mut rest = file;
+    let mut has_seals = false;
     'batches: while let Some((body, behind)) = first_batch(rest) {
         let end = (file.len() as u64).saturating_sub(behind.len() as u64);
         let offset = end.saturating_sub(body.len() as u64);
-        add_batch(alloc, set, body, number, offset)?;
+        let sealed = add_batch(alloc, set, body, number, offset)?;
+        if has_seals && !sealed {
+            let fault = JournalDamage::Checksum { at: end };
+            return Err(OpenFault::Damaged { number, fault });
+        }
+        has_seals = sealed;
         rest = behind;
     }
+    let end = file.len().saturating_sub(rest.len());
     if hides_batches(rest) {
-        let at = (file.len() as u64).saturating_sub(rest.len() as u64);
-        let fault = JournalDamage::Hidden { at };
+        let fault = JournalDamage::Hidden { at: end as u64 };
         return Err(OpenFault::Damaged { number, fault });
     }
-    Ok(())
+    Ok(end)
 }
 
-/// Brings the entries of the newest journal that a read shows into memory. It changes nothing.
-pub(crate) fn recover<D: Disk>(alloc: Global, disk: &mut D) -> Result<PagedArchive, OpenFault>
-    ensures recovered { IfOk result (λ set. D.tells disk.new → IsSound (D.state disk.old)
-        → IsRecovered (D.state disk.old) (entries_in set)) }
+/// Brings the entries of the newest journal that a read shows into memory, and gives the journal. It
+/// changes nothing.
+pub(crate) fn recover<D: Disk>(
+    alloc: Global,
+    disk: &mut D,
+) -> Result<(PagedArchive, Option<ReadJournal>), OpenFault>
+    ensures recovered { IfOk result (λ r. D.tells disk.new → IsSound (D.state disk.old)
+        → IsRecovered (D.state disk.old) (entries_in r.0)) }
+    ensures read { IfOk result (λ r. D.tells disk.new → IsSound (D.state disk.old)
+        → IsRead (D.state disk.old) r.1) }
     ensures same { D.tells disk.new → IsUnchanged (D.state disk.old) (D.state disk.new) }
     ensures told { D.tells disk.new → D.tells disk.old }
     ensures cause { IfErr result (IsOpeningCause (D.tells disk.new) (D.has_failed disk.new)
         (D.state disk.old)) }
 {
     let mut set = PagedArchive::new(alloc);
-    if let Some((number, octets)) = newest_journal(alloc, disk)? {
-        add_batches(alloc, &mut set, &octets, number)?;
-    }
-    Ok(set)
+    let Some((number, octets)) = newest_journal(alloc, disk)? else {
+        return Ok((set, None));
+    };
+    let end = add_batches(alloc, &mut set, &octets, number)?;
+    let journal = ReadJournal {
+        number,
+        octets,
+        end,
+    };
+    Ok((set, Some(journal)))
+}
+
+/// Reads the newest journal whole, as an opening does, so that damage is told before anything else is
+/// done with it. It changes nothing.
+///
+/// # Errors
+/// Those of [`DurableStore::open`](crate::DurableStore::open).
+pub fn check_newest<D: Disk>(alloc: Global, disk: &mut D) -> Result<(), OpenFault>
+    ensures whole { OnOk result (D.tells disk.new → IsSound (D.state disk.old)
+        → (number : ℕ) (octets : List ℕ) → IsNewestShown (D.state disk.old) number octets
+        → IsWholeJournal octets) }
+    ensures same { D.tells disk.new → IsUnchanged (D.state disk.old) (D.state disk.new) }
+    ensures told { D.tells disk.new → D.tells disk.old }
+    ensures cause { IfErr result (IsOpeningCause (D.tells disk.new) (D.has_failed disk.new)
+        (D.state disk.old)) }
+{
+    let _recovered = recover(alloc, disk)?;
+    Ok(())
 }

@@ -8,9 +8,11 @@ ghost use Rattle.archive_text.specs.Entries.{Entry};
 ghost use Rattle.record_store.specs.Causes.{IsCause, commit_causes, opening_causes};
 ghost use Rattle.record_store.specs.Crashes.{Keeps};
 ghost use Rattle.record_store.specs.Stores.{IsReady, Sets, all_committed, begun};
+ghost use Rattle.durable_store.specs.Asides.{SetsTailAside, aside_of};
 ghost use Rattle.durable_store.specs.Causes.{IsDamage, IsOpeningCause};
 ghost use Rattle.durable_store.specs.Durables.{IsBroken, Recovers, Stands, entries_of, journal_store, waiting_of};
 
+use crate::aside::{SetAside, set_tail_aside};
 use crate::fault::OpenFault;
 use crate::recovery::recover;
 use archive_pages::PagedArchive;
@@ -29,14 +31,18 @@ pub struct DurableStore {
     pub(crate) set: PagedArchive,
     // the journal, and the batch that waits
     pub(crate) store: RecordStore,
+    // what was set aside when it was opened
+    pub(crate) aside: Option<SetAside>,
     // the canonical octets of the record that is added
     pub(crate) scratch: Vec<u8>,
 }
 
 impl DurableStore {
     /// Opens the store of a folder, after a restart of the machine or of the process alone. A
-    /// folder without a journal gets one. The set in memory is that of the newest journal. The
-    /// store keeps what the folder keeps: whenever a crash comes, committed ⊆ S ⊆ received. It can
+    /// folder without a journal gets one. The set in memory is that of the newest journal. What is
+    /// behind the batches of that, as after a commit that was cut short, stands for nothing and is
+    /// cut off, but first set aside: it is written at the end of `damaged.journal.N` (`set_aside`
+    /// tells). The store keeps what the folder keeps: whenever a crash comes, committed ⊆ S ⊆ received. It can
     /// say so only if no sync has failed since the machine was started.
     ///
     /// # Errors
@@ -48,6 +54,8 @@ impl DurableStore {
             → Stands store (D.state disk.new) (begun committed received (entries_of store))) }
         ensures recovers { IfOk result (λ store. D.tells disk.new → IsSound (D.state disk.old)
             → Recovers store (D.state disk.old)) }
+        ensures aside { IfOk result (λ store. D.tells disk.new → IsSound (D.state disk.old)
+            → SetsTailAside (D.state disk.old) (D.state disk.new) (aside_of store)) }
 
         // whatever the result is: so at every moment
         ensures any_moment { D.tells disk.new → IsSound (D.state disk.old)
@@ -61,13 +69,22 @@ impl DurableStore {
         ensures cause { IfErr result (IsOpeningCause (D.tells disk.new) (D.has_failed disk.new)
             (D.state disk.old)) }
     {
-        let set = recover(alloc, disk)?;
+        let (set, journal) = recover(alloc, disk)?;
+        let aside = set_tail_aside(alloc, disk, journal)?;
         let (store, _batches) = open(alloc, disk)?;
         Ok(DurableStore {
             set,
             store,
+            aside,
             scratch: Vec::new(alloc),
         })
+    }
+
+    /// What was set aside when the store was opened, if anything was.
+    pub fn set_aside(&self) -> Option<SetAside>
+        ensures { result ≡ aside_of self.now }
+    {
+        self.aside
     }
 
     /// Commits what waits. Once it has returned `Ok`, every crash leaves its records; a crash at

@@ -1,5 +1,5 @@
 -- Whose folder a store may be kept in.
-use Rattle.std.specs.Prelude.{◌≡◌, ◌≢◌, ◌⊎◌, ℕ, bit_and}
+use Rattle.std.specs.Prelude.{◌≡◌, ◌≢◌, ◌⊎◌, ◌≤◌, ℕ, bit_and}
 use Rattle.std.specs.declared.io.ErrorKind.{ErrorKind}
 use Rattle.std.specs.declared.io.ErrorKind.TheVariants.{PermissionDenied}
 use Rattle.std.specs.IoError.{error_kind}
@@ -14,6 +14,11 @@ root = 0
 pub record MayKeep (caller owner mode : ℕ) : Type 0 where
   pub owned : (owner ≡ caller) ⊎ (owner ≡ root)
   pub closed : bit_and mode 0o002 ≡ 0
+
+-- a file of the caller's own or root's, which has no other name
+pub record MayWriteTo (caller owner names : ℕ) : Type 0 where
+  pub owned : (owner ≡ caller) ⊎ (owner ≡ root)
+  pub alone : names ≤ 1
 
 -- why such a folder is refused
 pub record IsRefusal (caller owner group : ℕ) (fault : FolderFault) : Type 0 where

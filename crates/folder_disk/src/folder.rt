@@ -6,7 +6,7 @@ ghost use Rattle.folder_disk.specs.Folders.{HasFailedSync, untold, last_error_of
 
 use crate::fault::{Target, fault_of};
 use crate::open_files::OpenFiles;
-use crate::{FileError, FolderFault};
+use crate::{FileError, FolderFault, FolderLock};
 use disk::{Disk, DiskFault, FileName};
 use std::alloc::Global;
 use std::fs::OpenFile;
@@ -27,6 +27,9 @@ pub struct FolderDisk<R: Files> {
     files: OpenFiles<R>,
     last_error: Option<FileError>,
     sync_failed: bool,
+    // where a sync that fails is noted, and why it was not
+    lock: Option<FolderLock>,
+    note_error: Option<io::Error>,
 }
 
 // Makes a folder for its owner alone; whether it was missing.
@@ -76,6 +79,8 @@ impl<R: Files + AllocGlobal + Clone + Drop> FolderDisk<R> {
             files: OpenFiles::new(rt, path)?,
             last_error: None,
             sync_failed: false,
+            lock: None,
+            note_error: None,
         })
     }
 
@@ -109,6 +114,33 @@ impl<R: Files + AllocGlobal + Clone + Drop> FolderDisk<R> {
         ensures { IsTrue result ↔ HasFailedSync self.now }
     {
         self.sync_failed
+    }
+
+    /// Keeps a lock on the folder, in whose file the first sync that fails is noted, at once.
+    pub fn hold(&mut self, lock: FolderLock)
+        ensures same { last_error_of self.new ≡ last_error_of self.old }
+        ensures sync { HasFailedSync self.new ↔ HasFailedSync self.old }
+    {
+        self.lock = Some(lock);
+    }
+
+    /// Why a sync that failed could not be noted, if one could not.
+    pub fn note_error(&self) -> Option<&io::Error> {
+        self.note_error.as_ref()
+    }
+
+    // Notes that a sync has failed.
+    fn note_failure(&mut self)
+        ensures sync { HasFailedSync self.new }
+        ensures same { last_error_of self.new ≡ last_error_of self.old }
+    {
+        if self.sync_failed {
+            return;
+        }
+        self.sync_failed = true;
+        if let Some(lock) = &mut self.lock {
+            self.note_error = lock.note_failed_sync().err();
+        }
     }
 
     // What the system's answer to a call means. Where it is that the disk failed, it is kept.
@@ -150,7 +182,9 @@ impl<R: Files + AllocGlobal + Clone + Drop> FolderDisk<R> {
         ensures noted { IsErr result → HasFailedSync self.new }
         ensures cause { HasCause (IsSome self.old.last_error) (IsSome self.new.last_error) result }
     {
-        self.sync_failed = self.sync_failed || answer.is_err();
+        if answer.is_err() {
+            self.note_failure();
+        }
         self.told(target, name, answer)
     }
 }

@@ -69,6 +69,10 @@ pub enum LockFault {
 #[derive(Drop)]
 pub struct FolderLock {
     file: File,
+    // what the system calls its run; nothing where it does not tell
+    boot: Vec<u8>,
+    // the note of a run in which a sync has failed
+    failed: Vec<u8>,
 }
 
 fn open_lock<R: Files + AllocGlobal>(rt: &R, folder: &str, lock: LockFile) -> io::Result<R::File> {
@@ -78,7 +82,27 @@ fn open_lock<R: Files + AllocGlobal>(rt: &R, folder: &str, lock: LockFile) -> io
     let folder = FolderPath::new(rt.alloc(), folder)?;
     let mut path = String::from_str(rt.alloc(), folder.as_str())?;
     path.push_str(lock.name())?;
-    Ok(open_or_create(rt, path.as_str(), Access::Write)?.file)
+    let opened = open_or_create(rt, path.as_str(), Access::Write)?;
+    opened.require_own()?;
+    Ok(opened.file)
+}
+
+// The lock of a folder, which is not taken yet.
+fn make_lock<R: Files<File = File> + AllocGlobal>(
+    rt: &R,
+    folder: &str,
+    lock: LockFile,
+) -> io::Result<FolderLock> {
+    let file = open_lock(rt, folder, lock)?;
+    let boot = boot_id(rt, rt.alloc())?;
+    let failed = failed_note(rt.alloc(), &boot)?;
+    Ok(FolderLock { file, boot, failed })
+}
+
+// Writes a note over the one before.
+fn put_note(file: &mut File, note: &[u8]) -> io::Result<()> {
+    write_from(file, 0, note)?;
+    cut_to(file, note.len() as u64)
 }
 
 impl FolderLock {
@@ -89,49 +113,35 @@ impl FolderLock {
         folder: &str,
         lock: LockFile,
     ) -> Result<FolderLock, LockFault> {
-        let file = match open_lock(rt, folder, lock) {
-            Ok(file) => file,
+        let taken = match make_lock(rt, folder, lock) {
+            Ok(taken) => taken,
             Err(error) => return Err(LockFault::Failed(LockError { lock, error })),
         };
-        match file.try_lock() {
-            Ok(()) => Ok(FolderLock { file }),
+        match taken.file.try_lock() {
+            Ok(()) => Ok(taken),
             Err(TryLockError::WouldBlock) => Err(LockFault::Held),
             Err(TryLockError::Error(error)) => Err(LockFault::Failed(LockError { lock, error })),
         }
     }
 
     /// Whether a run that had the lock has noted that a sync failed, since the machine was started. It
-    /// is so too if the note cannot be understood, or if the system does not tell since when it runs.
-    pub fn tells_of_failed_sync<R: Files>(&mut self, rt: &R, alloc: Global) -> io::Result<bool> {
+    /// is so too if the note cannot be understood, or if it says that a sync failed and the system does not
+    /// tell which run this is.
+    pub fn tells_of_failed_sync(&mut self) -> io::Result<bool> {
         let mut note = [0u8; NOTE_MAX];
         let count = read_from(&mut self.file, 0, &mut note)?;
-        let boot = boot_id(rt, alloc)?;
-        Ok(tells_of_boot(&note[..count], &boot))
+        Ok(tells_of_boot(&note[..count], &self.boot))
     }
 
-    // Writes a note over the one before.
-    fn put_note(&mut self, note: &[u8]) -> io::Result<()> {
-        write_from(&mut self.file, 0, note)?;
-        cut_to(&mut self.file, note.len() as u64)
+    /// Notes that a sync has failed. There is room for it once `note_sound` has been called.
+    pub fn note_failed_sync(&mut self) -> io::Result<()> {
+        put_note(&mut self.file, &self.failed)
     }
 
-    /// Notes that a sync has failed.
-    pub fn note_failed_sync<R: Files>(&mut self, rt: &R, alloc: Global) -> io::Result<()> {
-        let note = failed_note(alloc, &boot_id(rt, alloc)?)?;
-        self.put_note(&note)
-    }
-
-    /// Notes that no sync has failed. Where the disk is full there may be no room for a first note:
-    /// then it stays as it is.
-    pub fn note_sound<R: Files>(&mut self, rt: &R, alloc: Global) -> io::Result<()> {
-        let note = sound_note(alloc, &boot_id(rt, alloc)?)?;
-        match self.put_note(&note) {
-            Err(error)
-                if matches!(
-                    error.kind(),
-                    ErrorKind::StorageFull | ErrorKind::QuotaExceeded
-                ) => Ok(()),
-            answer => answer,
-        }
+    /// Notes that no sync has failed, which makes room for the other note: it is as long. It fails where
+    /// a full disk has no room for the first one.
+    pub fn note_sound(&mut self, alloc: Global) -> io::Result<()> {
+        let note = sound_note(alloc, &self.boot)?;
+        put_note(&mut self.file, &note)
     }
 }

@@ -1,6 +1,7 @@
 //! Regular files, which are opened without following links and without waiting.
 ghost use Rattle.std.specs.Prelude.{◌↔◌, IsOk};
 ghost use Rattle.std.specs.Fs.{IsFile, file_type};
+ghost use Rattle.folder_disk.specs.Owners.{MayWriteTo};
 
 use std::fs;
 use std::fs::{Metadata, OpenFile, OpenOptions};
@@ -109,6 +110,28 @@ pub fn create_regular<R: Files>(rt: &R, path: &str) -> io::Result<RegularFile<R:
 pub fn remove_regular<R: Files>(rt: &R, path: &str) -> io::Result<()> {
     require_regular(&fs::symlink_metadata(rt, path)?)?;
     fs::remove_file(rt, path)
+}
+
+// Refuses a file of this owner with so many names that the caller may not write to: another one's, or one
+// that has a name somewhere else too.
+fn require_own_file(caller: u32, owner: u32, names: u64) -> io::Result<()>
+    ensures { IsOk result ↔ MayWriteTo caller owner names }
+{
+    if owner != caller && owner != 0 {
+        return Err(io::Error::new(ErrorKind::PermissionDenied, "its owner is another user"));
+    }
+    if names > 1 {
+        return Err(io::Error::new(ErrorKind::InvalidInput, "it has another name"));
+    }
+    Ok(())
+}
+
+impl<F> RegularFile<F> {
+    /// Refuses a file that is not the caller's or root's, or that has more names than this one: what is
+    /// written to it would be written to a file of somewhere else.
+    pub fn require_own(&self) -> io::Result<()> {
+        require_own_file(libc::geteuid(), self.found.uid(), self.found.nlink())
+    }
 }
 
 /// Opens a regular file, which is made if it is missing.

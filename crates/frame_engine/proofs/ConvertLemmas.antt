@@ -9,7 +9,7 @@ use Rattle.syslog_frame.specs.declared.framing.Framing.{Framing}
 use Rattle.syslog_frame.specs.declared.framing.Framing.TheVariants.{Counted, Lf}
 use Rattle.syslog_frame.specs.declared.limits.TheConstants.{FRAME_MAX}
 use Rattle.syslog_value.specs.Parts.{Parts}
-use Rattle.syslog_fields.specs.Canonical.{Canonical, HeaderForm, priority_version_form}
+use Rattle.syslog_fields.specs.Canonical.{Canonical}
 use Rattle.syslog_legacy.specs.declared.frame_reading.FrameReading.{FrameReading}
 use Rattle.frame_engine.specs.Readings.{AddsRecord, IsRefusedWith}
 use Rattle.frame_engine.specs.Converted.{Carries, Converts, convert_handling, Framed, GoesOut, goes_out, noted_line}
@@ -20,6 +20,7 @@ use Rattle.frame_engine.specs.Handling.{HasOneOutputEach}
 use Rattle.syslog_grammar.proofs.CanonicalParses.{canonical_once}
 use Rattle.frame_engine.proofs.HandlingLemmas.{adds_output, same_done}
 use Rattle.frame_engine.proofs.ReadingLemmas.{not_both, one_record}
+use Rattle.syslog_fields.proofs.CanonicalTexts.{canonical_some}
 
 pub carries : (kind : Framing) (octets : List ℕ) → CanCarry kind octets → Carries kind octets
 carries Counted octets h = tt
@@ -80,13 +81,10 @@ out_long kind n c s fault old new same is h e =
       e,
     )
 
--- canonical octets begin with an angle bracket
+-- canonical octets are never none
 pub some_octets : (way : FrameReading) (f c : List ℕ) → AddsRecord way f [] c → 0 < length c
-unfolding HeaderForm
-some_octets way frame c (r, h, (text, (x, y, e, (prefix, following, f, g, w), t), whole)) =
-    let all : c ≡ (priority_version_form r.priority ++ following) ++ y =
-    whole ∙ e ∙ ap (λ (s : List ℕ). s ++ y) (f ∙ ap (λ (s : List ℕ). s ++ following) g) in
-    rw all (omega arith)
+some_octets way frame c (r, h, (text, canonical, whole)) =
+    subst (λ (b : List ℕ). 0 < length b) (sym whole) (canonical_some r text canonical)
 
 -- an outcome is added to an equal account of what was done
 pub adds_after : (D : Done → Type 0) (old mid new : Done) → mid.refused ≡ old.refused → mid.output ≡ old.output

@@ -5,14 +5,11 @@ use Rattle.std.specs.Prelude.{◌||◌}
 use Rattle.std.proofs.lemmas.List.{append-nil}
 use Rattle.driver.specs.Effects.{Done, nothing, then_done}
 use Rattle.frame_engine.specs.Handling.{HandledFrom, Handling, HasOneOutputEach}
+use Rattle.std.proofs.Math.Bool.{or-false}
 
 or_assoc : (a b c : Bool) → ((a || b) || c) ≡ (a || (b || c))
 or_assoc true b c = refl
 or_assoc false b c = refl
-
-pub or_false : (a : Bool) → (a || false) ≡ a
-or_false true = refl
-or_false false = refl
 
 abbrev pub build : Bool → List ℕ → List ℕ → Done
 build r o n = record { refused = r; output = o; diagnostics = n }
@@ -25,7 +22,7 @@ then_assoc a b c = same_done _ _ _ _ _ _ (or_assoc a.refused b.refused c.refused
     (append_assoc a.output b.output c.output) (append_assoc a.diagnostics b.diagnostics c.diagnostics)
 
 pub then_nothing : (a : Done) → then_done a nothing ≡ a
-then_nothing a = same_done _ _ _ _ _ _ (or_false a.refused) (append-nil a.output) (append-nil a.diagnostics)
+then_nothing a = same_done _ _ _ _ _ _ (or-false a.refused) (append-nil a.output) (append-nil a.diagnostics)
 
 -- one more frame
 pub handled_more : (D : Handling) (n m : ℕ) (fs : List (List ℕ)) (f : List ℕ) (a b : Done) → m ≡ n + length fs
@@ -65,11 +62,11 @@ handled_prefix D one n (f ∷ fs) gs a b (c, d, hc, hd, ea) (c', d', hc', hd', e
 pub adds_output : (old new : Done) (text : List ℕ) → new.refused ≡ old.refused → new.output ≡ old.output ++ text
     → new.diagnostics ≡ old.diagnostics → new ≡ then_done old (record { refused = false; output = text; diagnostics = [] })
 adds_output old new text r o n = same_done new.refused (old.refused || false) new.output (old.output ++ text) new.diagnostics
-    (old.diagnostics ++ []) (r ∙ sym (or_false old.refused)) o (n ∙ sym (append-nil old.diagnostics))
+    (old.diagnostics ++ []) (r ∙ sym (or-false old.refused)) o (n ∙ sym (append-nil old.diagnostics))
 
 -- octets were appended to the diagnostics, and nothing else was done
 pub adds_note : (old new : Done) (text : List ℕ) → new.refused ≡ old.refused → new.output ≡ old.output
     → new.diagnostics ≡ old.diagnostics ++ text
     → new ≡ then_done old (record { refused = false; output = []; diagnostics = text })
 adds_note old new text r o n = same_done new.refused (old.refused || false) new.output (old.output ++ []) new.diagnostics
-    (old.diagnostics ++ text) (r ∙ sym (or_false old.refused)) (o ∙ sym (append-nil old.output)) n
+    (old.diagnostics ++ text) (r ∙ sym (or-false old.refused)) (o ∙ sym (append-nil old.output)) n

@@ -1,21 +1,14 @@
 -- What `check` and `show` write of a frame is one text.
-use Rattle.std.proofs.Common.{◌≡◌, ℕ, ℤ, ◌+◌, ◌*◌, ◌<◌, List, Option, None, Some, codes, sym, ap, ap₂, subst, ◌∙◌}
-use Rattle.std.proofs.Common.{arith, get_or, inl, inr}
+use Rattle.std.proofs.Common.{◌≡◌, ℕ, ℤ, ◌+◌, ◌*◌, ◌<◌, List, Option, codes, sym, ap, ap₂, subst, ◌∙◌}
+use Rattle.std.proofs.Common.{arith, inl, inr}
 use Rattle.std.specs.List.{flat_map}
 use Rattle.octet_language.specs.Language.{Language, Only, ◌⋅◌}
-use Rattle.syslog_value.proofs.CivilTimes.{civil-injective}
-use Rattle.syslog_value.proofs.Tables.{facility_at, severity_at, severity_code-lt}
+use Rattle.syslog_value.proofs.Tables.{severity_code-lt, facility_once, severity_once}
 use Rattle.syslog_value.specs.Facilities.{facility_code}
 use Rattle.syslog_value.specs.Severities.{severity_code}
 use Rattle.syslog_value.specs.Parts.{Parts}
-use Rattle.syslog_value.specs.declared.facility.Facility.{Facility}
-use Rattle.syslog_value.specs.declared.facility.Facility.TheVariants.{Kern}
 use Rattle.syslog_value.specs.declared.facility.TheConstants.Facility as facilities
-use Rattle.syslog_value.specs.declared.severity.Severity.{Severity}
-use Rattle.syslog_value.specs.declared.severity.Severity.TheVariants.{Emergency}
 use Rattle.syslog_value.specs.declared.severity.TheConstants.Severity as severities
-use Rattle.syslog_reading.proofs.Props.{once}
-use Rattle.syslog_fields.specs.Canonical.{TimeForm, civil_text}
 use Rattle.syslog_legacy.specs.declared.frame_reading.FrameReading.{FrameReading}
 use Rattle.frame_engine.specs.Checked.{check_handling}
 use Rattle.driver.specs.Effects.{Done}
@@ -27,12 +20,11 @@ use Rattle.frame_engine.specs.Showing.{number_line, priority_line, show_handling
 use Rattle.frame_engine.specs.ShowingJson.{show_json_handling}
 use Rattle.record_json.specs.Objects.{JsonLine}
 use Rattle.record_json.proofs.LineLaws.{line_once}
+use Rattle.syslog_fields.proofs.CanonicalTexts.{time_once}
+use Rattle.octet_language.proofs.Sequence.{once, only_once}
 
 abbrev output_of : Done → List ℕ
 output_of d = d.output
-
-only_once : (a s t : List ℕ) → Only a s → Only a t → s ≡ t
-only_once a s t h k = h ∙ sym k
 
 pub check_output : (way : FrameReading) → HasOneOutputEach (check_handling way)
 check_output way n f a b (inl (h, e)) (inl (k, g)) = ap output_of (e ∙ sym g)
@@ -42,12 +34,6 @@ check_output way n f a b (inr (l, h, e)) (inr (m, k, g)) =
     ap output_of e ∙ ap line_text (one_line way n f l m h k) ∙ sym (ap output_of g)
 
 -- ---- the lines of a record
-
-facility_once : (f g : Facility) → facility_code f ≡ facility_code g → f ≡ g
-facility_once f g e = sym (facility_at f) ∙ ap (λ (k : ℕ). get_or facilities.ALL k Kern) e ∙ facility_at g
-
-severity_once : (s t : Severity) → severity_code s ≡ severity_code t → s ≡ t
-severity_once s t e = sym (severity_at s) ∙ ap (λ (k : ℕ). get_or severities.ALL k Emergency) e ∙ severity_at t
 
 same_facility : (f g s t : ℕ) → f * 8 + s ≡ g * 8 + t → s < 8 → t < 8 → f ≡ g
 same_facility f g s t e h k = omega arith
@@ -60,13 +46,8 @@ priority_line_once v b c (f, s, e, h) (g, t, e', k) =
     let severity : severity_code s ≡ severity_code t = omega (arith, codes, facility) in
     h ∙ ap₂ (priority_line v) (facility_once f g facility) (severity_once s t severity) ∙ sym k
 
-time_form_once : (i : Option ℤ) (b c : List ℕ) → TimeForm i b → TimeForm i c → b ≡ c
-time_form_once None b c h k = h ∙ sym k
-time_form_once (Some i) b c (u, uc, ui, ub) (v, vc, vi, vb) =
-    ub ∙ ap civil_text (civil-injective u v uc vc (ui ∙ sym vi)) ∙ sym vb
-
 time_line_once : (i : Option ℤ) (b c : List ℕ) → TimeLine i b → TimeLine i c → b ≡ c
-time_line_once i b c (s, h, e) (t, k, g) = e ∙ ap (line_of (codes "time")) (time_form_once i s t h k) ∙ sym g
+time_line_once i b c (s, h, e) (t, k, g) = e ∙ ap (line_of (codes "time")) (time_once i s t h k) ∙ sym g
 
 record_lines_once : (n : ℕ) (r : Parts ℤ) (b c : List ℕ) → RecordLines n r b → RecordLines n r c → b ≡ c
 unfolding RecordLines

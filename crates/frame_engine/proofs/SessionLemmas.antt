@@ -31,7 +31,7 @@ use Rattle.frame_engine.proofs.HandlingLemmas.{handled_output, handled_prefix, t
 
 -- ---- a stream that goes on
 
-nothing_begins : (kind : Framing) → Begins (Whole kind) []
+pub nothing_begins : (kind : Framing) → Begins (Whole kind) []
 nothing_begins Counted = (framed Counted (0 ∷ []), (0 ∷ [], ((omega arith, omega arith), refl)))
 nothing_begins Lf = (framed Lf [], ([], (tt, refl)))
 

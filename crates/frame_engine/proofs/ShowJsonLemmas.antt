@@ -1,8 +1,8 @@
 -- The line of a record that was read, from its parts.
-use Rattle.std.proofs.Common.{◌≡◌, ℕ, ℤ, ◌++◌, ◌≤◌, List, [], Bool, true, false, Option, refl, sym, ap, length, ◌∙◌}
-use Rattle.std.specs.Prelude.{◌↔◌, IsTrue, if◌then◌else◌, Result, Ok, Err, OnOk, option_map}
+use Rattle.std.proofs.Common.{◌≡◌, ℕ, ℤ, ◌≤◌, List, Bool, true, false, refl, ap, length}
+use Rattle.std.specs.Prelude.{◌↔◌, IsTrue, if◌then◌else◌, Result, Ok, Err, OnOk}
 use Rattle.syslog_frame.specs.declared.limits.TheConstants.{FRAME_MAX}
-use Rattle.syslog_value.specs.Parts.{AnyOctets, ElementParts, MessageParts, Parts, Utf8Text}
+use Rattle.syslog_value.specs.Parts.{AnyOctets, MessageParts, Parts, Utf8Text}
 use Rattle.syslog_fields.specs.Appending.{Adds as AddsText}
 use Rattle.syslog_reading.specs.ViewParts.{HasBom, octets_of}
 use Rattle.syslog_reading.specs.WellFormed.{WellFormed}
@@ -31,19 +31,6 @@ legacy_shown way f old new (Ok x) q is (text, line, e) a b =
     (goes_out text, (q, is, text, line, refl), adds_output old new text a e b)
 legacy_shown way f old new (Err x) q is h a b = tt
 
-parts_of : ℕ → Option ℤ → Option (List ℕ) → Option (List ℕ) → Option (List ℕ) → Option (List ℕ) → List ElementParts
-    → MessageParts → Parts ℤ
-parts_of p t h a c i e m = record {
-  priority = p;
-  time = t;
-  hostname = h;
-  app_name = a;
-  proc_id = c;
-  msg_id = i;
-  elements = e;
-  message = m;
-}
-
 -- the message by its octets and whether they had a BOM
 pub same_message : (m : MessageParts) (octets : List ℕ) (has_mark : Bool) → octets ≡ octets_of m
     → (IsTrue has_mark ↔ HasBom m) → (if has_mark then Utf8Text octets else AnyOctets octets) ≡ m
@@ -51,14 +38,3 @@ same_message (AnyOctets x) octets true e h = absurd (h.0 refl)
 same_message (AnyOctets x) octets false e h = ap AnyOctets e
 same_message (Utf8Text x) octets true e h = ap Utf8Text e
 same_message (Utf8Text x) octets false e h = let w : false ≡ true = h.1 tt in absurd cc
-
--- a record by its parts
-pub legacy_is : (r q : Parts ℤ) → r.priority ≡ q.priority → r.time ≡ q.time → r.hostname ≡ q.hostname
-    → r.app_name ≡ q.app_name → r.proc_id ≡ q.proc_id → r.msg_id ≡ q.msg_id → r.elements ≡ q.elements
-    → r.message ≡ q.message → r ≡ q
-unfolding parts_of
-legacy_is r q priority time hostname app_name proc_id msg_id elements message =
-    let same : parts_of r.priority r.time r.hostname r.app_name r.proc_id r.msg_id r.elements r.message
-    ≡ parts_of q.priority q.time q.hostname q.app_name q.proc_id q.msg_id q.elements q.message =
-    rw (priority, time, hostname, app_name, proc_id, msg_id, elements, message) refl in
-    same

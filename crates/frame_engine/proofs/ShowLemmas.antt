@@ -1,6 +1,6 @@
 -- The lines of a record, from its parts.
 use Rattle.std.proofs.Common.{◌≡◌, ℕ, ℤ, List, Bool, true, false, Option, refl, ap}
-use Rattle.std.specs.Prelude.{◌↔◌, IsTrue, if◌then◌else◌, Result, Ok, Err, OnErr}
+use Rattle.std.specs.Prelude.{◌↔◌, IsTrue, if◌then◌else◌}
 use Rattle.std.specs.List.{flat_map}
 use Rattle.octet_language.specs.Language.{Only, ◌⋅◌}
 use Rattle.syslog_value.specs.Parts.{AnyOctets, ElementParts, MessageParts, Parts, Utf8Text}
@@ -21,7 +21,3 @@ pub same_lines : (n p : ℕ) (r : Parts ℤ) (t : Option ℤ) (es : List Element
     Only (message_line m)) b → RecordLines n r b
 unfolding RecordLines
 same_lines n p r t es m e f g h b w = rw (e, f, g, h) at w
-
-pub always_err : {X E : Type 0} (r : Result X E) (P : Type 0) → P → OnErr r P
-always_err (Ok x) P h = tt
-always_err (Err e) P h = h

@@ -12,12 +12,9 @@ use Rattle.driver.specs.Effects.{Adds, Done, then_done}
 use Rattle.frame_engine.specs.Handling.{HandledFrom, Handling}
 use Rattle.frame_engine.specs.Streams.{HasBad, HasHandled, HasPart}
 use Rattle.frame_engine.proofs.HandlingLemmas.{handled_more, then_assoc}
+use Rattle.syslog_frame.proofs.Delivered.{taken_on}
 
 -- ---- a piece: the rest follows what was taken
-
-taken_on : (taken rest piece : List ℕ) (n : ℕ) → piece ≡ taken ++ rest → piece ≡ (taken ++ take n rest) ++ drop n rest
-taken_on taken rest piece n e = e ∙ ap (λ (u : List ℕ). taken ++ u) (sym (take-append-drop n rest))
-    ∙ sym (append_assoc taken (take n rest) (drop n rest))
 
 -- what follows the octets that were taken, to the end of the piece and further
 taken_further : (octets taken rest piece more : List ℕ) (n : ℕ) → piece ≡ taken ++ rest

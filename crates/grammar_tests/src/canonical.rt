@@ -39,8 +39,10 @@ fn canonical(alloc: Global, octets: &[u8]) -> Result<Vec<u8>, Fail> {
 /// sorted by id, three octets are escaped, an empty message is left out and the BOM is kept.
 const FORMS: [(&[u8], &[u8]); 27] = [
     (
-        b"<7>1 - - - - - [b-name-of-twenty-oct k-name-of-twenty-oct=\"twenty octets of text, \\n then \\\" and \xc3\xa9 \\] end\"][a]",
-        b"<7>1 - - - - - [a][b-name-of-twenty-oct k-name-of-twenty-oct=\"twenty octets of text, \\\\n then \\\" and \xc3\xa9 \\] end\"]",
+        b"<7>1 - - - - - [b-name-of-twenty-oct k-name-of-twenty-oct=\"twenty octets of text, \\n then \\\" \
+          and \xc3\xa9 \\] end\"][a]",
+        b"<7>1 - - - - - [a][b-name-of-twenty-oct k-name-of-twenty-oct=\"twenty octets of text, \\\\n then \
+          \\\" and \xc3\xa9 \\] end\"]",
     ),
     (
         b"<165>1 2003-08-24T05:14:15.000003-07:00 192.0.2.1 myproc 8710 - - %% It's time to make the do-nuts.",

@@ -301,7 +301,8 @@ const DEVICES: [Form; 40] = [
         2001,
         0,
         b"<86>Jan 10 00:00:01 host1 sshd[1234]: Accepted publickey for root from 10.1.2.3 port 50022 ssh2",
-        b"<86>1 2001-01-10T00:00:01.000000Z host1 sshd 1234 - - Accepted publickey for root from 10.1.2.3 port 50022 ssh2",
+        b"<86>1 2001-01-10T00:00:01.000000Z host1 sshd 1234 - - Accepted publickey for root from 10.1.2.3 \
+          port 50022 ssh2",
     ),
     // cron.
     (

@@ -2,8 +2,10 @@
 use Rattle.std.proofs.Common.{◌≡◌, ℕ, ◌-◌, ◌≤◌, List, [], ◌∷◌, ◌++◌, length, take, drop, refl, sym, ap, subst, ◌∙◌}
 use Rattle.std.proofs.Common.{append_assoc, arith, inl, inr}
 use Rattle.std.proofs.lemmas.List.{take_at, length-append, take-append-drop, length-take}
-use Rattle.octet_language.specs.Language.{Language, Begins, IsFaultOffset, Refuses, Stops}
+use Rattle.std.proofs.lemmas.List.{append-nil, take-append-le, take-take}
+use Rattle.octet_language.specs.Language.{Language, Begins, IsFaultOffset, Refuses, Stops, NoPrefix}
 use Rattle.octet_language.proofs.Lists.{parted, one_more}
+use Rattle.std.proofs.lemmas.Bool.{cases_lt}
 
 longest : (L : Language) (p rest : List ℕ) (m : ℕ) → Refuses L p rest → m ≤ length (p ++ rest)
     → Begins L (take m (p ++ rest)) → m ≤ length p
@@ -35,3 +37,35 @@ IsFaultOffset-from_stops L b remaining s =
 -- octets have at most one such offset
 pub IsFaultOffset-unique : (L : Language) (b : List ℕ) (n m : ℕ) → IsFaultOffset L b n → IsFaultOffset L b m → n ≡ m
 IsFaultOffset-unique L b n m h k = omega (arith, h.longest m k.within k.begins, k.longest n h.within h.begins)
+
+-- ---- with more octets behind
+
+-- octets that no text begins with, and of which no prefix is one, have none however they continue
+pub NoPrefix-longer : (L : Language) (b more : List ℕ) → NoPrefix L b → ¬ (Begins L b) → NoPrefix L (b ++ more)
+NoPrefix-longer L b [] none dead x y e h = none x y (sym (append-nil b) ∙ e) h
+NoPrefix-longer L b (m ∷ more) none dead x y e h =
+    elim (parted x y b m more (sym e)) [
+      | inl z ↦ dead (m ∷ z.0, subst L z.1 h)
+      | inr w ↦ none x w.0 w.1 h
+    ]
+
+pub none_longer : (L : Language) (b more : List ℕ) → ¬ (Begins L b) → ¬ (Begins L (b ++ more))
+none_longer L b more dead (end, h) = dead (more ++ end, subst L (append_assoc b more end) h)
+
+-- and stop where they did
+pub IsFaultOffset-longer : (L : Language) (b more : List ℕ) (n : ℕ) → ¬ (Begins L b) → IsFaultOffset L b n
+    → IsFaultOffset L (b ++ more) n
+IsFaultOffset-longer L b more n dead p = record {
+  within = omega (arith, p.within, length-append b more);
+  begins = subst (Begins L) (sym (take-append-le n b more p.within)) p.begins;
+  longest = λ m within h.
+      elim (cases_lt (length b) m) [
+        | inl past ↦
+            let prefix : take m (b ++ more) ≡ b ++ drop (length b) (take m (b ++ more)) =
+            sym (take-append-drop (length b) (take m (b ++ more)))
+            ∙ ap (λ (u : List ℕ). u ++ drop (length b) (take m (b ++ more)))
+            (take-take (length b) m (b ++ more) (omega (arith, past)) ∙ take_at b more (length b) refl) in
+            absurd (none_longer L b (drop (length b) (take m (b ++ more))) dead (subst (Begins L) prefix h))
+        | inr le ↦ p.longest m le (subst (Begins L) (take-append-le m b more le) h)
+      ];
+}

@@ -1,6 +1,7 @@
 pub mod Lists
 pub mod Sequence
 pub mod FaultOffset
+pub mod FirstOctet
 pub mod Decimal
 pub mod Delimited
 pub mod Chain

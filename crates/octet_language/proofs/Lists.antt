@@ -2,7 +2,7 @@
 use Rattle.std.proofs.Common.{◌≡◌, ◌≢◌, ℕ, List, [], ◌∷◌, ◌++◌, length, take, refl, sym, ap, ◌∙◌, append_assoc, inl}
 use Rattle.std.proofs.Common.{inr, ◌⊎◌}
 use Rattle.std.specs.List.{AllByRecursion}
-use Rattle.std.proofs.lemmas.List.{take_at}
+use Rattle.std.proofs.lemmas.List.{append_cancel_left, take_at}
 
 pub heads : (a b : ℕ) (s t : List ℕ) → a ∷ s ≡ b ∷ t → a ≡ b
 heads a b s t e = cc
@@ -76,3 +76,9 @@ not_free x (h ∷ a) (d ∷ b) c p e = not_free x a b c p.1 (tails h d a (b ++ x
 -- prefixes of the same length are the same
 pub same_prefix : (f g s t : List ℕ) → length f ≡ length g → f ++ s ≡ g ++ t → f ≡ g
 same_prefix f g s t n e = sym (take_at f s (length f) refl) ∙ ap (take (length f)) e ∙ take_at g t (length f) (sym n)
+
+-- the two parts of a text, by the length of the first
+pub by_length : (f g s t : List ℕ) → length f ≡ length g → f ++ s ≡ g ++ t → (f ≡ g) × (s ≡ t)
+by_length f g s t n e =
+    let same = same_prefix f g s t n e in
+    (same, append_cancel_left f s t (e ∙ ap (λ (u : List ℕ). u ++ t) (sym same)))

@@ -1,7 +1,7 @@
 -- Where a sequence of two languages stops, from where its parts stop.
 use Rattle.std.proofs.Common.{◌≡◌, ℕ, List, [], ◌∷◌, ◌++◌, sym, ap, subst, ◌∙◌, append_assoc, inl, inr}
 use Rattle.std.proofs.lemmas.List.{append_cancel_left, append-nil}
-use Rattle.octet_language.specs.Language.{Language, ◌⋅◌, Refuses, Stops, NoPrefix, IsPrefixFree}
+use Rattle.octet_language.specs.Language.{Language, ◌⋅◌, Refuses, Stops, NoPrefix, IsPrefixFree, Only}
 use Rattle.octet_language.proofs.Lists.{parted, one_more}
 
 -- no prefix of the first, so no prefix of the two
@@ -87,3 +87,13 @@ IsPrefixFree-then A B first second p s q t a b e =
     (sym left ∙ e ∙ right ∙ ap (λ (u : List ℕ). u ++ (b.1 ++ t)) (sym same)) in
     let seconds : a.1 ≡ b.1 = second a.1 s b.1 t a.4 b.4 rests in
     a.2 ∙ ap (λ (u : List ℕ). u ++ a.1) same ∙ ap (λ (u : List ℕ). b.0 ++ u) seconds ∙ sym b.2
+
+-- ---- languages of one text
+
+pub only_once : (a s t : List ℕ) → Only a s → Only a t → s ≡ t
+only_once a s t h k = h ∙ sym k
+
+pub once : (A B : Language) (b c : List ℕ) → ((s t : List ℕ) → A s → A t → s ≡ t) → ((s t : List ℕ) → B s → B t → s ≡ t)
+    → (A ⋅ B) b → (A ⋅ B) c → b ≡ c
+once A B b c one two (x, y, e, h, k) (u, v, f, i, j) =
+    e ∙ ap (λ (s : List ℕ). s ++ y) (one x u h i) ∙ ap (λ (s : List ℕ). u ++ s) (two y v k j) ∙ sym f

@@ -1,3 +1,4 @@
 pub mod ClockLemmas
+pub mod GivenLemmas
 pub mod NumberLemmas
 pub mod TimeLemmas

@@ -20,11 +20,11 @@ use Rattle.syslog_reading.proofs.Viewing.{time_exists}
 abbrev pub Decided : Type 0 → Type 0
 Decided A = A ⊎ ¬ A
 
-mapped : {A B : Type 0} → (A → B) → (B → A) → Decided A → Decided B
+pub mapped : {A B : Type 0} → (A → B) → (B → A) → Decided A → Decided B
 mapped f g (inl a) = inl (f a)
 mapped f g (inr n) = inr (λ b. n (g b))
 
-both : {A B : Type 0} → Decided A → Decided B → Decided (A × B)
+pub both : {A B : Type 0} → Decided A → Decided B → Decided (A × B)
 both (inl a) (inl b) = inl (a, b)
 both (inl a) (inr n) = inr (λ h. n h.1)
 both (inr n) d = inr (λ h. n h.0)
@@ -34,14 +34,14 @@ either (inl a) d = inl (inl a)
 either (inr n) (inl b) = inl (inr b)
 either (inr n) (inr m) = inr (λ h. elim h [ inl a ↦ n a | inr b ↦ m b ])
 
-tested : {P : Type 0} (t : Bool) → Decides t P → Decided P
+pub tested : {P : Type 0} (t : Bool) → Decides t P → Decided P
 tested true d = inl (d.0 refl)
 tested false d = inr (λ p. true≢false (sym (d.1 p)))
 
 only : (text b : List ℕ) → Decided (Only text b)
 only text b = tested (bytes_eq b text) (bytes_eq-Decides b text)
 
-at_most : (a b : ℕ) → Decided (a ≤ b)
+pub at_most : (a b : ℕ) → Decided (a ≤ b)
 at_most a b = elim (cases_lt b a) [ inl l ↦ inr (λ h. omega (arith, l, h)) | inr h ↦ inl h ]
 
 -- a number up to n has the property

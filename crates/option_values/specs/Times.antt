@@ -1,6 +1,7 @@
 -- The instant of a word that is a timestamp.
 use Rattle.std.proofs.Common.{inl, inr}
-use Rattle.std.specs.Prelude.{ℤ, pos, neg_ℤ, ◌&&◌, Option, Some, None, if◌then◌else◌}
+use Rattle.std.specs.Prelude.{ℤ, pos, neg_ℤ, ◌&&◌, ◌++◌, [], Option, Some, None, codes, if◌then◌else◌}
+use Rattle.std.specs.Option.{option_or}
 use Rattle.std.specs.Int.Signed.{le_z}
 use Rattle.clap.specs.Walk.{Text}
 use Rattle.octet_language.specs.Language.{AnyOf}
@@ -19,3 +20,10 @@ instant_where text (inr not_spelled) = None
 -- the instant of the timestamp (RFC 5424, 6.2.3, but for NILVALUE) that the text is, where it is one and in range
 unfoldable pub time_in : Text → Option ℤ
 time_in text = instant_where text (decided text)
+
+-- the same for a text that leaves out the last octets of a timestamp: the zone, which is UTC then, and before it the
+-- seconds or the time of day
+abbrev pub asked_time : Text → Option ℤ
+asked_time text =
+    option_or (option_or (option_or (time_in (text ++ [])) (time_in (text ++ codes "Z"))) (time_in (text ++ codes ":00Z")))
+    (time_in (text ++ codes "T00:00:00Z"))

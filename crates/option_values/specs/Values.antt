@@ -1,5 +1,5 @@
--- Values of options that need not be given, and flags.
-use Rattle.std.specs.Prelude.{Bool, false, List, Option, Some, None, codes, option_map}
+-- Values of options that need not be given, flags, and values of which there may be several.
+use Rattle.std.specs.Prelude.{Bool, false, List, [], ◌∷◌, Option, Some, None, codes, option_map}
 use Rattle.std.specs.Str.{bytes_eq}
 use Rattle.clap.specs.Walk.{Row, Text, first_of}
 
@@ -16,3 +16,9 @@ says_given (Some text) = bytes_eq text (codes "true")
 -- the flag with this id was given
 abbrev pub is_given_in : Text → List Row → Bool
 is_given_in id rows = says_given (first_of id rows)
+
+-- all items, where each is given
+abbrev pub all_given : {X : Type 0} → List (Option X) → Option (List X)
+all_given [] = Some []
+all_given (None ∷ rest) = None
+all_given (Some x ∷ rest) = option_map (λ xs. x ∷ xs) (all_given rest)

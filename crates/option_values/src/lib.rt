@@ -14,6 +14,8 @@ mod time_values;
 
 pub use given::{is_given, needed, value, values};
 pub use numbers::{number, number_within, optional_number};
-pub use option_row::{CommandRow, FILES_MAX, Form, Kind, OptionRow, Refusal, refusal_text};
+pub use option_row::{
+    CommandRow, FILES_MAX, Form, Kind, OptionRow, PATTERN_MAX, Refusal, refusal_text,
+};
 pub use reading_values::reading_of_matches;
 pub use time_values::optional_instant;

@@ -22,6 +22,9 @@ pub enum Form {
 /// How many values an option by places takes at most.
 pub const FILES_MAX: usize = 512;
 
+/// How many octets a pattern has at most.
+pub const PATTERN_MAX: usize = 1_024;
+
 /// What the value of an option may be.
 #[derive(Clone, Copy, Debug, PartialEq, Eq)]
 pub enum Kind {
@@ -37,7 +40,7 @@ pub enum Kind {
     Year(u32, u32),
     /// An offset from UTC.
     Zone,
-    /// A time of RFC 5424.
+    /// A time of RFC 5424, or one of UTC without its zone, seconds or time of day.
     Time,
     /// An address and a port.
     Address,
@@ -45,6 +48,14 @@ pub enum Kind {
     Facility,
     /// One of a few words, which the text lists.
     Words(&'static str),
+    /// A word of at most so many octets (RFC 5424, section 6.2), or `-` for none.
+    Word(usize),
+    /// SD-ID (RFC 5424, section 6.3.2).
+    Id,
+    /// A text with at least one octet.
+    NonEmpty,
+    /// A pattern, in which `*` stands for any octets and `?` for any one octet.
+    Pattern,
 }
 
 /// A row of the table of options.
@@ -91,6 +102,13 @@ pub enum Refusal<'a> {
     NoListener,
     /// `--only-undated` was given beside this option.
     Excluded(OptionRow),
+    /// The number of an option is greater than that of another.
+    Above {
+        /// The option.
+        option: OptionRow,
+        /// The option whose number bounds it.
+        bound: OptionRow,
+    },
 }
 
 impl OptionRow {
@@ -106,28 +124,43 @@ impl OptionRow {
 
 // What a value of a kind is, as a text for the user.
 fn expected(alloc: Global, kind: Kind) -> Result<String, AllocError> {
-    let text = match kind {
-        Kind::Text => "a text",
-        Kind::File => "a file",
-        Kind::Folder => "a folder",
-        Kind::Number(first, last) => {
-            return format!(in alloc; "a number from {first} to {last}");
-        }
-        Kind::Year(first, last) => {
-            return format!(in alloc; "a year from {first} to {last}");
-        }
-        Kind::Zone => "E or W, then hours and minutes in two digits each, such as E0130",
-        Kind::Time => {
-            "a time of RFC 5424 in the years 0 to 9999 of UTC, such as 2026-11-25T10:00:00Z"
-        }
-        Kind::Address => "an address and a port, such as 127.0.0.1:514 or [::1]:514",
-        Kind::Facility => {
+    match kind {
+        Kind::Text => String::from_str(alloc, "a text"),
+        Kind::File => String::from_str(alloc, "the name of a file"),
+        Kind::Folder => String::from_str(alloc, "the name of a folder"),
+        Kind::Number(first, last) => format!(in alloc; "a number from {first} to {last}"),
+        Kind::Year(first, last) => format!(in alloc; "a year from {first} to {last}"),
+        Kind::Zone => String::from_str(
+            alloc,
+            "E or W, then hours and minutes in two digits each, such as E0130",
+        ),
+        Kind::Time => String::from_str(
+            alloc,
+            "a time in the years 0 to 9999 of UTC, such as 2026-11-25T10:00:00Z, \
+             2026-11-25T10:00 or 2026-11-25",
+        ),
+        Kind::Address => String::from_str(
+            alloc,
+            "an address and a port, such as 127.0.0.1:514 or [::1]:514",
+        ),
+        Kind::Facility => String::from_str(
+            alloc,
             "kern, user, mail, daemon, auth, syslog, lpr, news, uucp, cron, authpriv, ftp, ntp, \
-             audit, alert, clock or local0 to local7"
-        }
-        Kind::Words(words) => words,
-    };
-    String::from_str(alloc, text)
+             audit, alert, clock or local0 to local7",
+        ),
+        Kind::Words(words) => String::from_str(alloc, words),
+        Kind::Word(most) => format!(in alloc;
+            "1 to {most} printable ASCII characters without spaces, or - for none"
+        ),
+        Kind::Id => String::from_str(
+            alloc,
+            "1 to 32 printable ASCII characters without spaces, =, ] and \"",
+        ),
+        Kind::NonEmpty => String::from_str(alloc, "a text that is not empty"),
+        Kind::Pattern => format!(in alloc;
+            "1 to {PATTERN_MAX} octets, of which * stands for any number of others and ? for one"
+        ),
+    }
 }
 
 // What stands before the name of an option, but not before that of a value by its place.
@@ -156,6 +189,11 @@ pub fn refusal_text(alloc: Global, refusal: Refusal<'_>) -> Result<String, Alloc
         ),
         Refusal::Excluded(OptionRow { name, .. }) => {
             format!(in alloc; "error: --only-undated cannot be used with --{name}\n")
+        }
+        Refusal::Above { option, bound } => {
+            let name = option.name;
+            let most = bound.name;
+            format!(in alloc; "error: the value of --{name} is greater than that of --{most}\n")
         }
     }
 }

@@ -155,7 +155,7 @@ pub const FROM: OptionRow = OptionRow {
     form: Form::Single,
     value: "time",
     kind: Kind::Time,
-    help: "Records at or after this time of RFC 5424, such as 2026-11-25T10:00:00Z",
+    help: "Records at or after this time: 2026-11-25T10:00:00Z, or 2026-11-25 or 2026-11-25T10:00 of UTC",
 };
 
 /// `--to` of select and read.
@@ -197,55 +197,109 @@ pub const SEVERITY: OptionRow = OptionRow {
 /// `--facility` of `select`.
 pub const FACILITY: OptionRow = OptionRow {
     name: "facility",
-    form: Form::Single,
+    form: Form::List,
     value: "name",
     kind: Kind::Facility,
-    help: "Records of this facility: kern, user, mail, daemon, ... or local0 to local7",
+    help: "Records of this facility, or of one of several: kern, user, mail, daemon, ... or local0 to local7",
 };
 
 /// `--host` of `select`.
 pub const HOST: OptionRow = OptionRow {
     name: "host",
-    form: Form::Single,
+    form: Form::List,
     value: "word",
-    kind: Kind::Text,
-    help: "Records with this HOSTNAME; - for none",
+    kind: Kind::Word(255),
+    help: "Records with this HOSTNAME, or one of several; - for none",
 };
 
 /// `--app` of `select`.
 pub const APP: OptionRow = OptionRow {
     name: "app",
-    form: Form::Single,
+    form: Form::List,
     value: "word",
-    kind: Kind::Text,
-    help: "Records with this APP-NAME; - for none",
+    kind: Kind::Word(48),
+    help: "Records with this APP-NAME, or one of several; - for none",
 };
 
 /// `--proc` of `select`.
 pub const PROC: OptionRow = OptionRow {
     name: "proc",
-    form: Form::Single,
+    form: Form::List,
     value: "word",
-    kind: Kind::Text,
-    help: "Records with this PROCID; - for none",
+    kind: Kind::Word(128),
+    help: "Records with this PROCID, or one of several; - for none",
 };
 
 /// `--msgid` of `select`.
 pub const MSGID: OptionRow = OptionRow {
     name: "msgid",
-    form: Form::Single,
+    form: Form::List,
     value: "word",
-    kind: Kind::Text,
-    help: "Records with this MSGID; - for none",
+    kind: Kind::Word(32),
+    help: "Records with this MSGID, or one of several; - for none",
 };
 
 /// `--id` of `select`.
 pub const ID: OptionRow = OptionRow {
     name: "id",
-    form: Form::Single,
+    form: Form::List,
     value: "id",
-    kind: Kind::Text,
-    help: "Records that have an element with this SD-ID",
+    kind: Kind::Id,
+    help: "Records that have an element with this SD-ID, or one of several",
+};
+
+/// `--message` of `select`.
+pub const RECORD_MESSAGE: OptionRow = OptionRow {
+    name: "message",
+    form: Form::List,
+    value: "text",
+    kind: Kind::NonEmpty,
+    help: "Records whose message contains this text, or one of several",
+};
+
+/// `--host-like` of `select`.
+pub const HOST_LIKE: OptionRow = OptionRow {
+    name: "host-like",
+    form: Form::List,
+    value: "glob",
+    kind: Kind::Pattern,
+    help: "Records whose HOSTNAME is like this pattern, or one of several; * is any text, ? any character",
+};
+
+/// `--app-like` of `select`.
+pub const APP_LIKE: OptionRow = OptionRow {
+    name: "app-like",
+    form: Form::List,
+    value: "glob",
+    kind: Kind::Pattern,
+    help: "Records whose APP-NAME is like this pattern, or one of several; * is any text, ? any character",
+};
+
+/// `--not-host` of `select`.
+pub const NOT_HOST: OptionRow = OptionRow {
+    name: "not-host",
+    form: Form::List,
+    value: "word",
+    kind: Kind::Word(255),
+    help: "Records without this HOSTNAME, or any of several; - for none",
+};
+
+/// `--not-app` of `select`.
+pub const NOT_APP: OptionRow = OptionRow {
+    name: "not-app",
+    form: Form::List,
+    value: "word",
+    kind: Kind::Word(48),
+    help: "Records without this APP-NAME, or any of several; - for none",
+};
+
+/// `--not-message` of `select`.
+pub const NOT_MESSAGE: OptionRow = OptionRow {
+    name: "not-message",
+    form: Form::List,
+    value: "text",
+    kind: Kind::NonEmpty,
+    help: "Records whose message does not contain this text, or any of several",
 };
 
 // ---- One record that is sent.
@@ -576,6 +630,12 @@ pub const SELECT_COMMAND: CommandRow = CommandRow {
         PROC,
         MSGID,
         ID,
+        RECORD_MESSAGE,
+        HOST_LIKE,
+        APP_LIKE,
+        NOT_HOST,
+        NOT_APP,
+        NOT_MESSAGE,
     ],
 };
 
@@ -584,6 +644,13 @@ pub const DIGEST_COMMAND: CommandRow = CommandRow {
     name: "digest",
     about: "Write a line for each period of an archive: its records, octets and SHA-256",
     options: &[PERIOD],
+};
+
+/// `root`.
+pub const ROOT_COMMAND: CommandRow = CommandRow {
+    name: "root",
+    about: "Write how many records an archive has, and their Merkle tree hash (RFC 9162)",
+    options: &[],
 };
 
 /// `read`.
@@ -657,7 +724,7 @@ pub const SERVE_COMMAND: CommandRow = CommandRow {
 };
 
 /// The commands, in the order of the help.
-pub const COMMANDS: [CommandRow; 18] = [
+pub const COMMANDS: [CommandRow; 19] = [
     SHOW_COMMAND,
     CHECK_COMMAND,
     CONVERT_COMMAND,
@@ -670,6 +737,7 @@ pub const COMMANDS: [CommandRow; 18] = [
     DIFF_COMMAND,
     SELECT_COMMAND,
     DIGEST_COMMAND,
+    ROOT_COMMAND,
     READ_COMMAND,
     VERIFY_COMMAND,
     COMPACT_COMMAND,

@@ -1,7 +1,7 @@
 //! Rows of words: numbers and zones, and what `collect` takes.
 
 use archive_digest::Period;
-use archive_sets::{AskedWord, Conditions, InRange, Times};
+use archive_sets::{Conditions, FieldTest, InRange, Times, WordField};
 use collect_engine::{CollectWords, Transport};
 use command_line::{FileRequest, FrameCommand, Request, WordsFault, collect_words, read_words};
 use server_words::{InheritedKind, ListenerWords, ServeOptions};
@@ -178,12 +178,21 @@ fn a_union_is_made_of_up_to_512_files(rt: HostRuntime) {
     assert!(rt; refuses(&rt, &["union", "a", "--trim"]));
 }
 
-// whether these are the conditions that `select` is given
-fn selects(rt: &HostRuntime, words: &[&str], asked: &Conditions<'_>) -> bool {
-    match &read_words(rt.alloc(), words) {
-        Ok(Request::Select { conditions }) => conditions == asked,
-        _ => false,
+// whether these are the tests that `select` is given: one of each of the lists, and none of the others
+fn selects(
+    rt: &HostRuntime,
+    words: &[&str],
+    any: &[&[FieldTest<'_>]],
+    none: &[FieldTest<'_>],
+) -> bool {
+    let Ok(Request::Select { conditions }) = &read_words(rt.alloc(), words) else {
+        return false;
+    };
+    let mut same = conditions.any.len() == any.len() && conditions.none.as_slice() == none;
+    for (found, asked) in conditions.any.iter().zip(any) {
+        same = same && found.as_slice() == *asked;
     }
+    same
 }
 
 // whether `select` is given these times
@@ -217,6 +226,16 @@ fn select_takes_times(rt: HostRuntime) {
         "--undated",
     ];
     assert!(rt; selects_times(&rt, &words, range(from, to, true)));
+    for time in [
+        "2026-11-25T10:00",
+        "2026-11-25T10:00:00",
+        "2026-11-25T10:00:00.000000",
+    ] {
+        assert!(rt; selects_times(&rt, &["select", "--from", time], range(from, None, false)));
+    }
+    let midnight = Some(1_795_564_800_000_000);
+    let words = ["select", "--from", "2026-11-25"];
+    assert!(rt; selects_times(&rt, &words, range(midnight, None, false)));
     let words = ["select", "--only-undated"];
     assert!(rt; selects_times(&rt, &words, Times::Undated));
     let words = ["select", "--undated", "--only-undated"];
@@ -228,8 +247,13 @@ fn other_times_are_refused(rt: HostRuntime) {
     for time in [
         "-",
         "",
-        "2026-11-25",
-        "2026-11-25T10:00:00",
+        "2026-11",
+        "2026-11-25T10",
+        "2026-11-25T10:00Z",
+        "2026-11-25T10:00:00+03",
+        "2026-11-25 10:00",
+        "2026-11-25T24:00",
+        "2026-02-29",
         "2026-11-25T10:00:00z",
         "2026-11-25T10:00:00Z ",
         "2026-11-25T10:00:00.1234567Z",
@@ -250,42 +274,131 @@ fn other_times_are_refused(rt: HostRuntime) {
 
 #[test]
 fn select_takes_fields(rt: HostRuntime) {
-    let asked = Conditions {
-        times: range(None, None, false),
-        severity: Some(Severity::Error),
-        facility: Some(Facility::Local7),
-        hostname: AskedWord::Absent,
-        app_name: AskedWord::Is(b"-x"),
-        proc_id: AskedWord::Is(b"7"),
-        msg_id: AskedWord::Is(b""),
-        id: Some(b"-"),
-    };
+    assert!(rt; selects(&rt, &["select"], &[], &[]));
     let words = [
         "select",
-        "--severity",
-        "err",
-        "--facility=local7",
+        "--id=a@1",
         "--host",
         "-",
         "--app=-x",
         "--proc",
         "7",
+        "--severity",
+        "err",
         "--msgid",
-        "",
-        "--id",
-        "-",
+        "m",
+        "--facility=local7",
     ];
-    assert!(rt; selects(&rt, &words, &asked));
+    let any: [&[FieldTest<'_>]; 7] = [
+        &[FieldTest::AsSevereAs(Severity::Error)],
+        &[FieldTest::OfFacility(Facility::Local7)],
+        &[FieldTest::Word(WordField::Hostname, None)],
+        &[FieldTest::Word(WordField::AppName, Some(b"-x"))],
+        &[FieldTest::Word(WordField::ProcId, Some(b"7"))],
+        &[FieldTest::Word(WordField::MsgId, Some(b"m"))],
+        &[FieldTest::Element(b"a@1")],
+    ];
+    assert!(rt; selects(&rt, &words, &any, &[]));
     for words in [
         ["select", "--severity", "error"],
         ["select", "--facility", "LOCAL7"],
-        ["select", "--host=a", "--host=a"],
-        ["select", "--id=a", "--id=b"],
         ["select", "--trim", "--id=a"],
         ["select", "--id=a", "b"],
+        ["select", "--severity=err", "--severity=err"],
     ] {
         assert!(rt; refuses(&rt, &words));
     }
+}
+
+#[test]
+fn values_of_an_option_mean_any_of_them_or_none(rt: HostRuntime) {
+    let words = [
+        "select",
+        "--not-app",
+        "c",
+        "--host=a",
+        "--not-host=h",
+        "--message",
+        "x y",
+        "--host=b",
+        "--not-message=\u{e4}",
+        "--host-like",
+        "fw-*",
+        "--not-host",
+        "-",
+        "--host-like=??",
+        "--app-like=*d",
+    ];
+    let any: [&[FieldTest<'_>]; 4] = [
+        &[
+            FieldTest::Word(WordField::Hostname, Some(b"a")),
+            FieldTest::Word(WordField::Hostname, Some(b"b")),
+        ],
+        &[FieldTest::Message(b"x y")],
+        &[
+            FieldTest::WordLike(WordField::Hostname, b"fw-*"),
+            FieldTest::WordLike(WordField::Hostname, b"??"),
+        ],
+        &[FieldTest::WordLike(WordField::AppName, b"*d")],
+    ];
+    let none = [
+        FieldTest::Word(WordField::Hostname, Some(b"h")),
+        FieldTest::Word(WordField::Hostname, None),
+        FieldTest::Word(WordField::AppName, Some(b"c")),
+        FieldTest::Message(b"\xc3\xa4"),
+    ];
+    assert!(rt; selects(&rt, &words, &any, &none));
+}
+
+// A text of 1,025 octets.
+const LONG: [u8; 1_025] = [b'w'; 1_025];
+
+// whether an option takes a text of so many octets, and none that is longer
+fn takes_up_to(rt: &HostRuntime, option: &str, most: usize) -> bool {
+    let (Ok(longest), Ok(longer)) = (
+        str::from_utf8(&LONG[..most.min(LONG.len())]),
+        str::from_utf8(&LONG[..most.saturating_add(1).min(LONG.len())]),
+    ) else {
+        return false;
+    };
+    !refuses(rt, &["select", option, longest]) && refuses(rt, &["select", option, longer])
+}
+
+#[test]
+fn words_that_no_record_can_have_are_refused(rt: HostRuntime) {
+    for (option, most) in [
+        ("--host", 255),
+        ("--app", 48),
+        ("--proc", 128),
+        ("--msgid", 32),
+        ("--id", 32),
+        ("--host-like", 1_024),
+        ("--app-like", 1_024),
+        ("--not-host", 255),
+        ("--not-app", 48),
+    ] {
+        assert!(rt; takes_up_to(&rt, option, most));
+        assert!(rt; refuses(&rt, &["select", option, ""]));
+    }
+    for option in [
+        "--host",
+        "--app",
+        "--proc",
+        "--msgid",
+        "--id",
+        "--not-host",
+        "--not-app",
+    ] {
+        for word in ["a b", "\u{7f}", "\u{e4}", "a\n"] {
+            assert!(rt; refuses(&rt, &["select", option, word]));
+        }
+    }
+    for id in ["a=b", "a]", "\"a\""] {
+        assert!(rt; refuses(&rt, &["select", "--id", id]));
+    }
+    assert!(rt; refuses(&rt, &["select", "--message", ""]));
+    assert!(rt; refuses(&rt, &["select", "--host=a", "--not-message", ""]));
+    assert!(rt; !refuses(&rt, &["select", "--message", "a b", "--host-like", "a b"]));
 }
 
 // the folder and the range that `read` is given
@@ -457,6 +570,7 @@ fn what_is_no_address_is_refused(rt: HostRuntime) {
     for kind in ["", "unix", "UDP", "3"] {
         assert!(rt; refuses(&rt, &["serve", "d", "--inherited", kind]));
     }
+    assert!(rt; refuses(&rt, &["serve", "d", "--unix", ""]));
     assert!(rt; refuses(&rt, &["serve", "d"]));
     assert!(rt; refuses(&rt, &["serve", "--unix", "p"]));
     assert!(rt; refuses(&rt, &["serve", "d", "e", "--unix", "p"]));
@@ -483,7 +597,7 @@ fn serve_has_limits(rt: HostRuntime) {
     };
     assert!(rt; serves(&rt, &["serve", "d", "--unix", "p"]) == Some(options));
     options.connections = 16_384;
-    options.per_peer = 4_096;
+    options.per_peer = 16_384;
     options.idle_seconds = Some(1);
     options.commit_millis = 0;
     options.checkpoint_mib = 1;
@@ -495,6 +609,7 @@ fn serve_has_limits(rt: HostRuntime) {
         "d",
         "--unix=p",
         "--connections=16384",
+        "--per-peer=16384",
         "--idle=1",
         "--commit=0",
         "--checkpoint=1",
@@ -506,6 +621,7 @@ fn serve_has_limits(rt: HostRuntime) {
     for word in [
         "--connections=0",
         "--connections=16385",
+        "--per-peer=1025",
         "--idle=0",
         "--idle=31536001",
         "--idle=",
@@ -599,8 +715,8 @@ fn tells(rt: &HostRuntime, words: &[&str], text: &str) -> bool {
 
 #[test]
 fn the_version_is_a_text(rt: HostRuntime) {
-    assert!(rt; tells(&rt, &["--version"], "syslogbox 0.3.0\n"));
-    assert!(rt; tells(&rt, &["-V"], "syslogbox 0.3.0\n"));
+    assert!(rt; tells(&rt, &["--version"], "syslogbox 0.4.0\n"));
+    assert!(rt; tells(&rt, &["-V"], "syslogbox 0.4.0\n"));
 }
 
 // words whose values are not all taken, and the text that names the first such option
@@ -647,13 +763,13 @@ const REFUSED_FRAMES: [(&[&str], &str); 9] = [
 const REFUSED_TIMES: [(&[&str], &str); 7] = [
     (
         &["select", "--to=-", "--facility=x"],
-        "error: invalid value '-' for --to: expected a time of RFC 5424 in the years 0 to 9999 of \
-        UTC, such as 2026-11-25T10:00:00Z\n",
+        "error: invalid value '-' for --to: expected a time in the years 0 to 9999 of UTC, such \
+        as 2026-11-25T10:00:00Z, 2026-11-25T10:00 or 2026-11-25\n",
     ),
     (
         &["read", "d", "--to=now", "--from=then"],
-        "error: invalid value 'then' for --from: expected a time of RFC 5424 in the years 0 to 9999 \
-        of UTC, such as 2026-11-25T10:00:00Z\n",
+        "error: invalid value 'then' for --from: expected a time in the years 0 to 9999 of UTC, such \
+        as 2026-11-25T10:00:00Z, 2026-11-25T10:00 or 2026-11-25\n",
     ),
     (
         &["select", "--severity", "error", "--facility", "x"],
@@ -681,12 +797,49 @@ const REFUSED_TIMES: [(&[&str], &str); 7] = [
             "--to=",
             "--from=2026-11-25T10:00:00Z",
         ],
-        "error: invalid value '' for --to: expected a time of RFC 5424 in the years 0 to 9999 of \
-        UTC, such as 2026-11-25T10:00:00Z\n",
+        "error: invalid value '' for --to: expected a time in the years 0 to 9999 of UTC, such \
+        as 2026-11-25T10:00:00Z, 2026-11-25T10:00 or 2026-11-25\n",
     ),
 ];
 
-const REFUSED_SOCKETS: [(&[&str], &str); 14] = [
+const REFUSED_CONDITIONS: [(&[&str], &str); 7] = [
+    (
+        &["select", "--app=c", "--host", "a b"],
+        "error: invalid value 'a b' for --host: expected 1 to 255 printable ASCII characters \
+        without spaces, or - for none\n",
+    ),
+    (
+        &["select", "--not-app", ""],
+        "error: invalid value '' for --not-app: expected 1 to 48 printable ASCII characters \
+        without spaces, or - for none\n",
+    ),
+    (
+        &["select", "--id=a", "--id=a=b"],
+        "error: invalid value 'a=b' for --id: expected 1 to 32 printable ASCII characters without \
+        spaces, =, ] and \"\n",
+    ),
+    (
+        &["select", "--message="],
+        "error: invalid value '' for --message: expected a text that is not empty\n",
+    ),
+    (
+        &["select", "--host-like="],
+        "error: invalid value '' for --host-like: expected 1 to 1024 octets, of which * stands for \
+        any number of others and ? for one\n",
+    ),
+    (
+        &["select", "--facility=kern", "--facility=x"],
+        "error: invalid value 'x' for --facility: expected kern, user, mail, daemon, auth, syslog, \
+        lpr, news, uucp, cron, authpriv, ftp, ntp, audit, alert, clock or local0 to local7\n",
+    ),
+    (
+        &["select", "--not-message=", "--host=", "--only-undated"],
+        "error: invalid value '' for --host: expected 1 to 255 printable ASCII characters without \
+        spaces, or - for none\n",
+    ),
+];
+
+const REFUSED_SOCKETS: [(&[&str], &str); 16] = [
     (
         &["collect", "tcp", "0", "0"],
         "error: invalid value 'tcp' for TRANSPORT: expected udp, counted or lf\n",
@@ -758,6 +911,14 @@ const REFUSED_SOCKETS: [(&[&str], &str); 14] = [
         &["serve", "d", "--unix=p", "--dialect=x", "--checkpoint=2049"],
         "error: invalid value '2049' for --checkpoint: expected a number from 1 to 2048\n",
     ),
+    (
+        &["serve", "d", "--per-peer=20", "--connections=10"],
+        "error: the value of --per-peer is greater than that of --connections\n",
+    ),
+    (
+        &["serve", "d", "--unix="],
+        "error: invalid value '' for --unix: expected the name of a file\n",
+    ),
 ];
 
 #[test]
@@ -766,6 +927,9 @@ fn the_first_option_that_is_refused_is_named(rt: HostRuntime) {
         assert!(rt; tells(&rt, words, text));
     }
     for (words, text) in REFUSED_TIMES {
+        assert!(rt; tells(&rt, words, text));
+    }
+    for (words, text) in REFUSED_CONDITIONS {
         assert!(rt; tells(&rt, words, text));
     }
     for (words, text) in REFUSED_SOCKETS {

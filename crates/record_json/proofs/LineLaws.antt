@@ -1,5 +1,5 @@
 -- Two records are one exactly where their lines are.
-use Rattle.std.proofs.Common.{◌≡◌, ℕ, zero, suc, ◌+◌, ◌*◌, ◌<◌, ◌≤◌, List, [], ◌∷◌, ◌++◌, length, get_or, refl, sym}
+use Rattle.std.proofs.Common.{◌≡◌, ℕ, zero, suc, ◌+◌, ◌*◌, ◌<◌, ◌≤◌, List, [], ◌∷◌, ◌++◌, length, refl, sym}
 use Rattle.std.proofs.Common.{ap, subst, ◌∙◌, arith, inl, inr}
 use Rattle.std.specs.Prelude.{ℤ, ◌↔◌, Option, Some, None, Result, Ok, codes, decimal}
 use Rattle.std.proofs.Math.Nat.{max-le}
@@ -19,32 +19,23 @@ use Rattle.syslog_value.specs.Facilities.{facility_code}
 use Rattle.syslog_value.specs.Parts.{AnyOctets, ElementParts, IsMessage, IsOctets, IsRecord, MessageParts, ParamParts, Parts}
 use Rattle.syslog_value.specs.Parts.{Utf8Text}
 use Rattle.syslog_value.specs.Severities.{severity_code}
-use Rattle.syslog_value.specs.declared.facility.Facility.{Facility}
 use Rattle.syslog_value.specs.declared.facility.Facility.TheVariants as facility
 use Rattle.syslog_value.specs.declared.facility.TheConstants.Facility as facilities
-use Rattle.syslog_value.specs.declared.severity.Severity.{Severity}
 use Rattle.syslog_value.specs.declared.severity.Severity.TheVariants as severity
 use Rattle.syslog_value.specs.declared.severity.TheConstants.Severity as severities
 use Rattle.syslog_value.proofs.CivilTimes.{civil-injective}
-use Rattle.syslog_value.proofs.Tables.{facility_at, severity_at, severity_code-lt}
+use Rattle.syslog_value.proofs.Tables.{severity_code-lt, facility_once, severity_once}
 use Rattle.syslog_fields.specs.Canonical.{TimeForm, civil_text}
 use Rattle.syslog_reading.proofs.OneMeaning.{nilable_time_same}
 use Rattle.syslog_grammar.proofs.CanonicalParses.{named}
 use Rattle.record_json.specs.Objects.{AreMessageJson, IsJsonOf, IsTimeJson, JsonLine, elements_json, object_of, params_json}
 use Rattle.record_json.specs.Objects.{word_json}
+use Rattle.syslog_value.specs.EqualityLaws.{same_elements, same_params}
 
 -- ---- a record has one object
 
 same_codes : (v w f g s t : ℕ) → s < 8 → t < 8 → v ≡ w → v ≡ f * 8 + s → w ≡ g * 8 + t → (f ≡ g) × (s ≡ t)
 same_codes v w f g s t a b e h k = (omega (arith, a, b, e, h, k), omega (arith, a, b, e, h, k))
-
-same_facility : (f g : Facility) → facility_code f ≡ facility_code g → f ≡ g
-same_facility f g e =
-    sym (facility_at f) ∙ ap (λ (k : ℕ). get_or facilities.ALL k facility.Kern) e ∙ facility_at g
-
-same_severity : (s t : Severity) → severity_code s ≡ severity_code t → s ≡ t
-same_severity s t e =
-    sym (severity_at s) ∙ ap (λ (k : ℕ). get_or severities.ALL k severity.Emergency) e ∙ severity_at t
 
 time_once : (i : Option ℤ) (a b : Json) → IsTimeJson i a → IsTimeJson i b → a ≡ b
 time_once None a b h k = h ∙ sym k
@@ -63,8 +54,8 @@ object_once r i j h k =
     let codes_same = same_codes r.priority r.priority (facility_code h.facility) (facility_code k.facility)
     (severity_code h.severity) (severity_code k.severity) (severity_code-lt h.severity) (severity_code-lt k.severity)
     refl h.priority_is k.priority_is in
-    let f : h.facility ≡ k.facility = same_facility h.facility k.facility codes_same.0 in
-    let s : h.severity ≡ k.severity = same_severity h.severity k.severity codes_same.1 in
+    let f : h.facility ≡ k.facility = facility_once h.facility k.facility codes_same.0 in
+    let s : h.severity ≡ k.severity = severity_once h.severity k.severity codes_same.1 in
     let time : h.time ≡ k.time = time_once r.time h.time k.time h.time_is k.time_is in
     let message : h.message ≡ k.message = message_once r.message h.message k.message h.message_is k.message_is in
     h.object_is ∙ rw (f, s, time, message) (sym k.object_is)
@@ -77,41 +68,27 @@ same_word None (Some w) e = absurd cc
 same_word (Some v) None e = absurd cc
 same_word (Some v) (Some w) e = let i : v ≡ w = cc in ap Some i
 
-param_of : List ℕ → List ℕ → ParamParts
-param_of n v = record { name = n; value = v }
-
-same_param : (p q : ParamParts) → p.name ≡ q.name → p.value ≡ q.value → p ≡ q
-unfolding param_of
-same_param p q name value = let same : param_of p.name p.value ≡ param_of q.name q.value = rw (name, value) in same
-
-same_params : (ps qs : List ParamParts) → params_json ps ≡ params_json qs → ps ≡ qs
-same_params [] [] e = refl
-same_params [] (q ∷ qs) e = absurd cc
-same_params (p ∷ ps) [] e = absurd cc
-same_params (p ∷ ps) (q ∷ qs) e =
+params_once : (ps qs : List ParamParts) → params_json ps ≡ params_json qs → ps ≡ qs
+params_once [] [] e = refl
+params_once [] (q ∷ qs) e = absurd cc
+params_once (p ∷ ps) [] e = absurd cc
+params_once (p ∷ ps) (q ∷ qs) e =
     let name : p.name ≡ q.name = cc in
     let value : p.value ≡ q.value = cc in
     let others : params_json ps ≡ params_json qs = cc in
-    let first = same_param p q name value in
-    ap (λ (x : ParamParts). x ∷ ps) first ∙ ap (λ (xs : List ParamParts). q ∷ xs) (same_params ps qs others)
+    let first = same_params p q name value in
+    ap (λ (x : ParamParts). x ∷ ps) first ∙ ap (λ (xs : List ParamParts). q ∷ xs) (params_once ps qs others)
 
-element_of : List ℕ → List ParamParts → ElementParts
-element_of i ps = record { id = i; params = ps }
-
-same_element : (e f : ElementParts) → e.id ≡ f.id → e.params ≡ f.params → e ≡ f
-unfolding element_of
-same_element e f id params = let same : element_of e.id e.params ≡ element_of f.id f.params = rw (id, params) in same
-
-same_elements : (es fs : List ElementParts) → elements_json es ≡ elements_json fs → es ≡ fs
-same_elements [] [] h = refl
-same_elements [] (f ∷ fs) h = absurd cc
-same_elements (e ∷ es) [] h = absurd cc
-same_elements (e ∷ es) (f ∷ fs) h =
+elements_once : (es fs : List ElementParts) → elements_json es ≡ elements_json fs → es ≡ fs
+elements_once [] [] h = refl
+elements_once [] (f ∷ fs) h = absurd cc
+elements_once (e ∷ es) [] h = absurd cc
+elements_once (e ∷ es) (f ∷ fs) h =
     let id : e.id ≡ f.id = cc in
     let params : params_json e.params ≡ params_json f.params = cc in
     let others : elements_json es ≡ elements_json fs = cc in
-    let first = same_element e f id (same_params e.params f.params params) in
-    ap (λ (x : ElementParts). x ∷ es) first ∙ ap (λ (xs : List ElementParts). f ∷ xs) (same_elements es fs others)
+    let first = same_elements e f id (params_once e.params f.params params) in
+    ap (λ (x : ElementParts). x ∷ es) first ∙ ap (λ (xs : List ElementParts). f ∷ xs) (elements_once es fs others)
 
 same_time : (i k : Option ℤ) (a : Json) → IsTimeJson i a → IsTimeJson k a → i ≡ k
 same_time None None a h k = refl
@@ -176,7 +153,7 @@ object_of_one r q j a b h k =
     let app_name = same_word r.app_name q.app_name app_name_same in
     let proc_id = same_word r.proc_id q.proc_id proc_id_same in
     let msg_id = same_word r.msg_id q.msg_id msg_id_same in
-    let elements = same_elements r.elements q.elements elements_same in
+    let elements = elements_once r.elements q.elements elements_same in
     let message = same_message r.message q.message h.message a.message b.message h.message_is
     (subst (AreMessageJson q.message) (sym message_same) k.message_is) in
     rw (priority, time, hostname, app_name, proc_id, msg_id, elements, message) refl

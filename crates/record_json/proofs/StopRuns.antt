@@ -5,7 +5,7 @@ use Rattle.std.proofs.lemmas.Bool.Decides.{nat_tests}
 use Rattle.std.proofs.lemmas.Grind.{common_steps}
 use Rattle.memchr.specs.Find.{IsFirstByte, Nowhere, Passes}
 use Rattle.syslog_fields.specs.Lanes.{IsRunOf}
-use Rattle.syslog_fields.proofs.LaneRuns.{nowhere_on}
+use Rattle.syslog_fields.proofs.LaneRuns.{nowhere_on, doubly}
 use Rattle.record_json.specs.Texts.{IsKept, is_escaped}
 
 pub kept_false : (x : ℕ) → is_escaped x ≡ false → IsKept x
@@ -17,10 +17,6 @@ kept_true x e h = h e
 not_true : (b : Bool) → ¬ (b ≡ true) → b ≡ false
 not_true true h = absurd (h refl)
 not_true false h = refl
-
-doubly : (b : Bool) → ¬ (¬ (b ≡ true)) → b ≡ true
-doubly true h = refl
-doubly false h = absurd (h (λ e. let i : false ≡ true = e in absurd cc))
 
 -- the parts of the test
 pub record Kept (x : ℕ) : Type 0 where

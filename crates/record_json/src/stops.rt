@@ -2,25 +2,11 @@
 
 ghost use Rattle.std.specs.Prelude.{◌≡◌, ◌+◌, ◌≤◌, length};
 ghost use Rattle.memchr.specs.Find.{IsFirstByte, Nowhere, Passes};
-ghost use Rattle.syslog_fields.specs.Lanes.{IsRunOf, first_set};
+ghost use Rattle.syslog_fields.specs.Lanes.{IsRunOf};
 ghost use Rattle.record_json.specs.Texts.{IsKept, is_escaped};
 
 use std::simd::prelude::*;
-
-/// How many octets one load has.
-const LANES: usize = 16;
-
-/// How many lanes come before the first one that is set in a mask.
-#[inline(always)]
-fn lanes_before(mask: u64) -> usize
-    ensures { result ≡ first_set mask }
-{
-    if mask == 0 {
-        LANES
-    } else {
-        mask.trailing_zeros() as usize
-    }
-}
+use syslog_fields::lanes::{LANES, lanes_before};
 
 /// How many of the sixteen octets at an offset come before the first that a string cannot have as
 /// it is.

@@ -38,7 +38,7 @@ gives_shown (Some file) text buf at n shown gives =
     subst (λ (l : List ℕ). (take n buf ≡ take n (drop at l)) × (n ≤ length (drop at l))
     × (n ≡ 0 → 0 < length buf → length l ≤ at)) same (gives.octets, gives.within, gives.ends)
 
-append_shown : (old new : State) (name before octets : List ℕ) → shown_now (old.entries name) ≡ Some before
+pub append_shown : (old new : State) (name before octets : List ℕ) → shown_now (old.entries name) ≡ Some before
     → ChangesFile old new name (appended octets) → shown_now (new.entries name) ≡ Some (before ++ octets)
 append_shown old new name before octets shown changes =
     let now : shown_now (old.entries name) ≡ Some changes.file.shown =

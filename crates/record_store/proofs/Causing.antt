@@ -7,7 +7,8 @@ use Rattle.journal.specs.declared.fault.JournalFault.{JournalFault}
 use Rattle.journal.specs.declared.fault.JournalFault.TheVariants.{Disk, TooLong}
 use Rattle.record_store.specs.Causes.{Causes, IsCause, IsDiskCause, IsJournalCause}
 use Rattle.record_store.specs.declared.fault.StoreFault.{StoreFault}
-use Rattle.record_store.specs.declared.fault.StoreFault.TheVariants.{Broken, Journal, Folder, Memory as No_memory}
+use Rattle.record_store.specs.declared.fault.StoreFault.TheVariants.{Broken, Journal, Folder, LastNumber}
+use Rattle.record_store.specs.declared.fault.StoreFault.TheVariants.{Memory as No_memory}
 
 pub disk_cause : {T : Type 0} (r : Result T DiskFault) (fault : DiskFault) (causes : Causes) → r ≡ Err fault
     → (r ≡ Err Failed → causes.failed) → (r ≡ Err Full → causes.full) → (r ≡ Err Missing → causes.other)
@@ -50,6 +51,7 @@ module _ (causes others : Causes) (failed : causes.failed → others.failed) (fu
       cause_weaker Broken is = broken is
       cause_weaker (Journal number fault) is = journal_weaker fault is
       cause_weaker (Folder fault) is = disk_weaker fault is
+      cause_weaker (LastNumber number) is = absurd is
       cause_weaker No_memory is = tt
 
       pub result_weaker : {T : Type 0} (r : Result T StoreFault) → IfErr r (IsCause causes) → IfErr r (IsCause others)

@@ -1,4 +1,5 @@
 pub mod Anew
+pub mod Asides
 pub mod Batches
 pub mod Causing
 pub mod Committing
@@ -23,3 +24,4 @@ pub mod Sealed
 pub mod Showing
 pub mod Standing
 pub mod Successions
+pub mod Unsealed

@@ -13,6 +13,7 @@ use Rattle.octet_language.proofs.Decimal.{digits_decimal}
 use Rattle.octet_language.proofs.Lists.{AllByRecursion-append}
 use Rattle.disk.specs.Names.{IsFileName, IsNameOctet}
 use Rattle.archive_text.proofs.Members.{all_weaker}
+use Rattle.record_store.specs.Asides.{aside_name}
 use Rattle.record_store.specs.Names.{IsDayName, IsHexadecimal, draft_name, journal_name}
 use Rattle.record_store.specs.Segments.{segment_name}
 use Rattle.record_store.proofs.Named.{journal_length}
@@ -57,6 +58,34 @@ journal_is_name n small =
       no_dots = λ is. omega (arith, size, ap length is);
       each = all_of IsNameOctet (journal_name n)
           (AllByRecursion-append IsNameOctet (codes "journal.") (decimal n) journal_octets (decimal_octets n small));
+    }
+
+damaged_octets : AllByRecursion IsNameOctet (codes "damaged.")
+damaged_octets = (
+  above 100 (omega arith),
+  (
+    above 97 (omega arith),
+    (
+      above 109 (omega arith),
+      (
+        above 97 (omega arith),
+        (above 103 (omega arith), (above 101 (omega arith), (above 100 (omega arith), (dot, tt)))),
+      ),
+    ),
+  ),
+)
+
+pub aside_is_name : (n : ℕ) → n < 2 ^ 64 → IsFileName (aside_name n)
+aside_is_name n small =
+    let size = length-append (codes "damaged.") (journal_name n) in
+    record {
+      some = omega (arith, size);
+      short = omega (arith, size, journal_length n small);
+      no_dot = λ is. omega (arith, size, ap length is);
+      no_dots = λ is. omega (arith, size, ap length is);
+      each = all_of IsNameOctet (aside_name n)
+          (AllByRecursion-append IsNameOctet (codes "damaged.") (journal_name n) damaged_octets
+          (AllByRecursion-append IsNameOctet (codes "journal.") (decimal n) journal_octets (decimal_octets n small)));
     }
 
 -- ---- segments

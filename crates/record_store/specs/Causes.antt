@@ -10,7 +10,8 @@ use Rattle.journal.specs.declared.fault.JournalFault.TheVariants.{Disk, TooLong}
 use Rattle.record_store.specs.Shown.{IsNewestShown, ShowsNoJournal}
 use Rattle.record_store.specs.Stores.{IsBroken, Sets, Stands}
 use Rattle.record_store.specs.declared.fault.StoreFault.{StoreFault}
-use Rattle.record_store.specs.declared.fault.StoreFault.TheVariants.{Broken, Journal, Folder, Memory as No_memory}
+use Rattle.record_store.specs.declared.fault.StoreFault.TheVariants.{Broken, Journal, Folder, LastNumber}
+use Rattle.record_store.specs.declared.fault.StoreFault.TheVariants.{Memory as No_memory}
 use Rattle.record_store.specs.declared.store.RecordStore.{RecordStore}
 
 -- what has to be so where a fault is told: that a call has failed before; that the disk failed; that it is full, or too
@@ -38,6 +39,7 @@ abbrev pub IsCause : Causes → StoreFault → Type 0
 IsCause causes Broken = causes.broken
 IsCause causes (Journal number fault) = IsJournalCause causes fault
 IsCause causes (Folder fault) = IsDiskCause causes fault
+IsCause causes (LastNumber number) = ⊥
 IsCause causes No_memory = Unit {0}
 
 -- what has to be so where a disk's fault is told of a call on files: that the disk failed, where it is told as failed or
@@ -63,6 +65,7 @@ abbrev pub TellsFull : StoreFault → Type 0
 TellsFull Broken = ⊥
 TellsFull (Journal number fault) = fault ≡ Disk Full
 TellsFull (Folder fault) = fault ≡ Full
+TellsFull (LastNumber number) = ⊥
 TellsFull No_memory = ⊥
 
 -- the newest journal that is shown is too long to be opened

@@ -1,5 +1,5 @@
 -- What a folder holds.
-use Rattle.std.specs.Prelude.{◌≡◌, ◌⊎◌, ℕ, ◌≤◌, List, [], ◌∷◌, ◌++◌, Option, None, Some, codes, length}
+use Rattle.std.specs.Prelude.{◌≡◌, ◌≢◌, ◌⊎◌, ℕ, ◌≤◌, List, [], ◌∷◌, ◌++◌, Option, None, Some, codes, length}
 use Rattle.std.specs.List.{AllByRecursion}
 use Rattle.disk.specs.States.{Files}
 use Rattle.journal.specs.Batches.{HasBatches}
@@ -29,11 +29,30 @@ pub record IsBatch (es : List Entry) (body : List ℕ) : Type 0 where
 abbrev pub IsReadable : List ℕ → Type 0
 IsReadable body = (es : List Entry) × IsBatch es body
 
--- each batch of a journal's file is one of entries, and nothing behind them hides others
+-- octets are those of some batch, with its seal
+pub record IsSealedBatch (body : List ℕ) : Type 0 where
+  pub entries : List Entry
+  pub batch : IsBatch entries body
+  pub some : batch.behind ≢ []
+
+-- behind a batch with its seal each batch has one: older programs wrote none, and no program leaves it out once it has
+-- written it
+abbrev pub StaySealed : List (List ℕ) → Type 0
+StaySealed [] = Unit {0}
+StaySealed (body ∷ bodies) = (IsSealedBatch body → AllByRecursion IsSealedBatch bodies) × StaySealed bodies
+
+-- some of these batches has its seal
+abbrev pub SomeIsSealed : List (List ℕ) → Type 0
+SomeIsSealed [] = ⊥
+SomeIsSealed (body ∷ bodies) = IsSealedBatch body ⊎ SomeIsSealed bodies
+
+-- each batch of a journal's file is one of entries, those behind a sealed one are sealed, and nothing behind them all
+-- hides others
 pub record IsWholeJournal (file : List ℕ) : Type 0 where
   pub bodies : List (List ℕ)
   pub batches : HasBatches file bodies
   pub readable : AllByRecursion IsReadable bodies
+  pub stay_sealed : StaySealed bodies
   pub nothing_hidden : ¬ (HidesBatches batches.tail)
 
 -- the entry is one of a batch

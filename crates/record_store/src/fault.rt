@@ -17,6 +17,9 @@ pub enum StoreFault {
     /// The names in the folder.
     #[error("the folder: {fault}")]
     Folder { fault: DiskFault },
+    /// The journal with this number is to be followed by another one, and there is no greater number.
+    #[error("journal.{number}: no journal has a greater number")]
+    LastNumber { number: u64 },
     /// An allocation failed.
     #[error("out of memory")]
     Memory,
@@ -45,7 +48,7 @@ impl StoreFault {
             StoreFault::Journal { number: _, fault } => *fault
                 == JournalFault::Disk(DiskFault::Full),
             StoreFault::Folder { fault } => *fault == DiskFault::Full,
-            StoreFault::Broken | StoreFault::Memory => false,
+            StoreFault::Broken | StoreFault::LastNumber { .. } | StoreFault::Memory => false,
         }
     }
 }

@@ -7,7 +7,8 @@ pub enum JournalDamage {
     /// A batch has something else where an entry has to be.
     #[error("{0}")]
     Archive(ArchiveFault),
-    /// What is behind the entries of a batch is not their seal.
+    /// What is behind the entries of a batch is not their seal; or nothing is, though a batch before has
+    /// its seal.
     #[error("another checksum at {at}")]
     Checksum { at: u64 },
     /// What is behind the batches hides others, or may.

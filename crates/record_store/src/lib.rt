@@ -3,7 +3,8 @@
 //! A folder has journals (`journal.N`: batches of records in the order in which they came, each with
 //! its seal, a length and a checksum) and segments (`DAY.HEX.archive`: archives of the records of a
 //! day, complete from the moment they have their name). It holds what these hold; files with other
-//! names count for nothing.
+//! names count for nothing, such as `damaged.journal.N`, to which octets of a journal are moved that
+//! stand for nothing.
 //!
 //! Whenever a crash comes, what the folder holds afterwards is a set S with committed ⊆ S ⊆
 //! received. Each call of [`RecordStore`] says so of every state that it may end with, so of every
@@ -12,6 +13,7 @@
 #![tactic(auto)]
 
 mod appending;
+mod aside;
 mod batch;
 mod fault;
 mod journal_damage;
@@ -26,6 +28,7 @@ mod segment;
 mod store;
 mod turning;
 
+pub use aside::set_aside;
 pub use fault::{AppendFault, StoreFault};
 pub use journal_damage::JournalDamage;
 pub use keeping::KeepFault;

@@ -1,5 +1,6 @@
 //! What files are called.
 ghost use Rattle.std.specs.Prelude.{◌≡◌, IfNone, IfOk, IfSome};
+ghost use Rattle.record_store.specs.Asides.{aside_name};
 ghost use Rattle.record_store.specs.Names.{IsGreater, IsJournal, IsNewest, journal_name};
 ghost use Rattle.record_store.specs.Renewals.{renewal_name};
 
@@ -12,6 +13,18 @@ pub(crate) fn name_of_journal(alloc: Global, number: u64) -> Result<FileName, Al
     ensures { IfOk result (λ name. name ≡ journal_name number) }
 {
     let mut octets = b"journal.".to_vec(alloc)?;
+    octets.extend_from_slice(Buffer::new().format(number).as_bytes())?;
+    match FileName::new(alloc, &octets)? {
+        Some(name) => Ok(name),
+        None => unreachable!(),
+    }
+}
+
+/// The name of the file to which octets of the journal with a number are moved that stand for nothing.
+pub(crate) fn name_of_aside(alloc: Global, number: u64) -> Result<FileName, AllocError>
+    ensures { IfOk result (λ name. name ≡ aside_name number) }
+{
+    let mut octets = b"damaged.journal.".to_vec(alloc)?;
     octets.extend_from_slice(Buffer::new().format(number).as_bytes())?;
     match FileName::new(alloc, &octets)? {
         Some(name) => Ok(name),

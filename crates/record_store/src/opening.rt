@@ -2,8 +2,9 @@
 ghost use Rattle.std.specs.Prelude.{◌≡◌, ◌↔◌, [], List, ℕ, Some, IfErr, IfNone, IfOk, IfSome, IsErr, OnOk};
 ghost use Rattle.disk.specs.Calls.{IsUnchanged};
 ghost use Rattle.disk.specs.Memory.{shown_now};
-ghost use Rattle.journal.specs.Journals.{IsSound, OpensOn, SettlesOthers, name_of};
+ghost use Rattle.journal.specs.Journals.{IsSound, KeepsOrSettlesOthers, OpensOn, SettlesOthers, name_of};
 ghost use Rattle.archive_text.specs.Entries.{Entry, Has};
+ghost use Rattle.record_store.specs.Asides.{KeepsOrSettlesFiles};
 ghost use Rattle.record_store.specs.Causes.{IsCause, IsJournalCause, newest_causes};
 ghost use Rattle.record_store.specs.Causes.{opening_causes, shown_causes};
 ghost use Rattle.record_store.specs.Crashes.{Keeps};
@@ -41,6 +42,7 @@ fn open_shown<D: Disk>(
     ensures shows { D.tells disk.new → IsSound (D.state disk.old)
         → (octets : List ℕ) → shown_now ((D.state disk.old).entries name) ≡ Some octets
         → ShowsTheBatches (D.state disk.old) (D.state disk.new) name }
+    ensures others { D.tells disk.new → KeepsOrSettlesOthers (D.state disk.old) (D.state disk.new) name }
 
     ensures told { D.tells disk.new → D.tells disk.old }
     ensures cause { IfErr result (IsJournalCause
@@ -66,6 +68,8 @@ fn open_journal<D: Disk>(
     ensures gives { IfOk result (λ r. D.tells disk.new → IsSound (D.state disk.old)
         → (octets : List ℕ) → IsNewestShown (D.state disk.old) number octets
         → GivesShown (D.state disk.old) (number_of r.0) r.1.items) }
+    ensures sound { OnOk result (D.tells disk.new → IsSound (D.state disk.old)
+        → (octets : List ℕ) → IsNewestShown (D.state disk.old) number octets → IsSound (D.state disk.new)) }
 
     // whatever the result is: so at every moment
     ensures any_moment { D.tells disk.new → IsSound (D.state disk.old)
@@ -76,6 +80,7 @@ fn open_journal<D: Disk>(
         → (octets : List ℕ) → IsNewestShown (D.state disk.old) number octets
         → (since : List Entry) → ShowsWithin (D.state disk.old) since
         → ShowsWithin (D.state disk.new) since }
+    ensures files { D.tells disk.new → KeepsOrSettlesFiles (D.state disk.old) (D.state disk.new) }
 
     ensures whole { IfOk result (λ r. ¬ (IsBroken r.0)) }
     ensures told { D.tells disk.new → D.tells disk.old }
@@ -116,6 +121,7 @@ pub fn open<D: Disk>(alloc: Global, disk: &mut D) -> Result<(RecordStore, Vec<u8
     ensures received { IfOk result (λ r. D.tells disk.new → IsSound (D.state disk.old)
         → (committed received : List Entry) → Keeps (D.state disk.old) committed received
         → (e : Entry) → JournalHas r.1.items e → Has received e) }
+    ensures sound { OnOk result (D.tells disk.new → IsSound (D.state disk.old) → IsSound (D.state disk.new)) }
 
     // whatever the result is: so at every moment
     ensures any_moment { D.tells disk.new → IsSound (D.state disk.old)
@@ -124,6 +130,7 @@ pub fn open<D: Disk>(alloc: Global, disk: &mut D) -> Result<(RecordStore, Vec<u8
     ensures shows { D.tells disk.new → IsSound (D.state disk.old)
         → (since : List Entry) → ShowsWithin (D.state disk.old) since
         → ShowsWithin (D.state disk.new) since }
+    ensures files { D.tells disk.new → KeepsOrSettlesFiles (D.state disk.old) (D.state disk.new) }
 
     ensures whole { IfOk result (λ r. ¬ (IsBroken r.0)) }
     ensures told { D.tells disk.new → D.tells disk.old }

@@ -24,6 +24,17 @@ pub(crate) fn clear<D: Disk>(disk: &mut D, name: &FileName) -> Result<(), DiskFa
     }
 }
 
+/// Removes a file that could not be written whole, if the disk lets it: it would take room on a full
+/// disk.
+pub(crate) fn discard<D: Disk>(disk: &mut D, name: &FileName)
+    ensures others { D.tells disk.new → KeepsOthers (D.state disk.old) (D.state disk.new) name.now }
+    ensures lost { D.tells disk.new → (D.state disk.new).lost ≡ (D.state disk.old).lost }
+    ensures told { D.tells disk.new → D.tells disk.old }
+    ensures failed { D.has_failed disk.old → D.has_failed disk.new }
+{
+    let _ = disk.remove(name);
+}
+
 // Writes a file anew, to the disk.
 fn draft<D: Disk>(disk: &mut D, name: &FileName, text: &[u8]) -> Result<(), DiskFault>
     ensures whole { OnOk result (D.tells disk.new → IsSound (D.state disk.old)

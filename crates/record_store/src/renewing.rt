@@ -9,7 +9,7 @@ ghost use Rattle.record_store.specs.Shown.{IsNewestShown};
 
 use crate::fault::StoreFault;
 use crate::names::{name_of_journal, name_of_renewal, newest};
-use crate::putting::clear;
+use crate::putting::{clear, discard};
 use crate::segment::place;
 use crate::turning::at_journal;
 use disk::{Disk, DiskFault, FileName};
@@ -46,7 +46,8 @@ fn copy<D: Disk>(disk: &mut D, from: &FileName, to: &FileName) -> Result<(), Dis
     Err(DiskFault::Full)
 }
 
-// Writes what a read of a file shows to a draft, in place of what is there.
+// Writes what a read of a file shows to a draft, in place of what is there. If that fails, the draft is
+// removed.
 fn draft_copy<D: Disk>(disk: &mut D, from: &FileName, draft: &FileName) -> Result<(), DiskFault>
     ensures drafted { OnOk result (D.tells disk.new → IsSound (D.state disk.old) → from.now ≢ draft.now
         → (text : List ℕ) → shown_now ((D.state disk.old).entries from.now) ≡ Some text
@@ -59,7 +60,13 @@ fn draft_copy<D: Disk>(disk: &mut D, from: &FileName, draft: &FileName) -> Resul
 {
     clear(disk, draft)?;
     disk.create(draft)?;
-    copy(disk, from, draft)
+    match copy(disk, from, draft) {
+        Ok(()) => Ok(()),
+        Err(fault) => {
+            discard(disk, draft);
+            Err(fault)
+        }
+    }
 }
 
 // Writes a journal anew under the name of the next one, and removes it.
@@ -101,7 +108,7 @@ fn renew_journal<D: Disk>(alloc: Global, disk: &mut D, number: u64) -> Result<()
     ensures told { D.tells disk.new → D.tells disk.old }
 {
     if number == u64::MAX {
-        return Err(at_journal(number, DiskFault::Full));
+        return Err(StoreFault::LastNumber { number });
     }
     let name = name_of_journal(alloc, number)?;
     let next = name_of_journal(alloc, number + 1)?;
@@ -118,7 +125,7 @@ fn renew_journal<D: Disk>(alloc: Global, disk: &mut D, number: u64) -> Result<()
 /// say of it what is not so. A folder without a journal stays as it is.
 ///
 /// # Errors
-/// The disk's fault, lack of memory, or `Full` if there is no greater number.
+/// The disk's fault, lack of memory, or `LastNumber` if there is no greater number.
 pub fn renew<D: Disk>(alloc: Global, disk: &mut D) -> Result<(), StoreFault>
     ensures renewed { OnOk result (D.tells disk.new → IsSound (D.state disk.old)
         → Renews (D.state disk.old) (D.state disk.new)) }

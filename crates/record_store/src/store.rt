@@ -3,6 +3,7 @@ ghost use Rattle.std.specs.Prelude.{◌≡◌, ◌≢◌, ◌↔◌, ◌++◌, �
 ghost use Rattle.disk.specs.States.{State};
 ghost use Rattle.journal.specs.Journals.{IsSound, Stands as JournalStands};
 ghost use Rattle.archive_text.specs.Entries.{Entry, IsEntry};
+ghost use Rattle.record_store.specs.Asides.{KeepsOrSettlesFiles};
 ghost use Rattle.record_store.specs.Causes.{IsCause, commit_causes, first_causes};
 ghost use Rattle.record_store.specs.Crashes.{Keeps};
 ghost use Rattle.record_store.specs.Seals.{sealed};
@@ -38,6 +39,7 @@ impl RecordStore {
             → Keeps (D.state disk.old) committed received → AreAmong since received
             → Stands store (D.state disk.new) (begun committed received since)) }
         ensures number { IfOk result (λ store. number_of store ≡ 1) }
+        ensures sound { OnOk result (D.tells disk.new → IsSound (D.state disk.old) → IsSound (D.state disk.new)) }
 
         // whatever the result is: so at every moment
         ensures any_moment { D.tells disk.new → IsSound (D.state disk.old)
@@ -46,6 +48,7 @@ impl RecordStore {
             → Keeps (D.state disk.new) committed received }
         ensures shows { D.tells disk.new → ShowsNoJournal (D.state disk.old)
             → (since : List Entry) → ShowsWithin (D.state disk.new) since }
+        ensures files { D.tells disk.new → KeepsOrSettlesFiles (D.state disk.old) (D.state disk.new) }
 
         ensures whole { IfOk result (λ store. ¬ (IsBroken store)) }
         ensures told { D.tells disk.new → D.tells disk.old }

@@ -21,7 +21,7 @@ use Rattle.serve_engine.specs.Intakes.{IsCommitted, StandsBy}
 use Rattle.serve_engine.specs.Keepings.{Kept}
 use Rattle.serve_engine.specs.Serving.{Accepts, CommitsAll, EndsUnlessFull, FaultsAs, HoldsReceived, IfSettled}
 use Rattle.serve_engine.specs.Serving.{IsCommitTurn, IsEventTurn, IsStepTurn, IsTryTurn, ServesEvent, ServesStep}
-use Rattle.serve_engine.specs.Serving.{IsToldFull, UnlessMemory, UnlessStopped, asks_commit, is_opening}
+use Rattle.serve_engine.specs.Serving.{IsToldFull, UnlessMemory, UnlessStopped, asks_commit, is_of_stream}
 use Rattle.serve_engine.specs.declared.counts.ServeCounts.{ServeCounts}
 use Rattle.serve_engine.specs.declared.intake.Intake.{Intake}
 use Rattle.serve_engine.specs.declared.keeping.KeepFault.{KeepFault}
@@ -130,12 +130,13 @@ pub stopped_fault : (f : KeepFault) (full : Bool) (t : Turn) (P : Type 0) → Fa
 stopped_fault keep.Full full t P (is, was_full) =
     subst (λ (u : Turn). UnlessStopped u full P) (sym is) (λ room. absurd (cc))
 stopped_fault keep.Failed full t P is = subst (λ (u : Turn). UnlessStopped u full P) (sym is) tt
-stopped_fault keep.Memory full t P is = subst (λ (u : Turn). UnlessStopped u full P) (sym is) tt
+stopped_fault keep.Memory full t P (is, was_full) =
+    subst (λ (u : Turn). UnlessStopped u full P) (sym is) (λ room. absurd (cc))
 
 pub fault_turn : (f : KeepFault) (full : Bool) (t : Turn) → FaultsAs f full t → IsCommitTurn t
 fault_turn keep.Full full t (is, was_full) = inl is
-fault_turn keep.Failed full t is = inr (inl is)
-fault_turn keep.Memory full t is = inr (inr is)
+fault_turn keep.Failed full t is = inr is
+fault_turn keep.Memory full t (is, was_full) = inl is
 
 pub unless_map : (t : Turn) (full : Bool) (P Q : Type 0) → UnlessStopped t full P → (P → Q) → UnlessStopped t full Q
 unless_map On full P Q h f = λ room. f (h room)
@@ -223,30 +224,17 @@ serves_nothing {S = S} {K = K} entries stands old new s octets full t was now is
   λ rests. refl,
 )
 
-pub event_step : (s : ServerStep) (t : Turn) → is_opening s ≡ false → IsEventTurn t → IsStepTurn s t
-event_step s t other (inl is) = subst (IsStepTurn s) (sym is) tt
-event_step s t other (inr is) = subst (IsStepTurn s) (sym is) other
-
-asks_other : (s : ServerStep) → asks_commit s ≡ true → is_opening s ≡ false
-asks_other (step.Opened conn listener framing peer) asks = absurd (cc)
-asks_other (step.Piece conn len) asks = refl
-asks_other (step.Ended conn end) asks = refl
-asks_other (step.Datagram listener peer len) asks = refl
-asks_other (step.TurnedAway listener framing peer) asks = refl
-asks_other step.Tick asks = refl
-asks_other step.InputEnded asks = refl
-asks_other step.Finished asks = refl
-asks_other (step.Failed fault) asks = refl
+pub event_step : (s : ServerStep) (t : Turn) → is_of_stream s ≡ true → IsEventTurn t → IsStepTurn s t
+event_step s t came (inl is) = subst (IsStepTurn s) (sym is) tt
+event_step s t came (inr is) = subst (IsStepTurn s) (sym is) came
 
 pub commit_step : (s : ServerStep) (t : Turn) → asks_commit s ≡ true → IsCommitTurn t → IsStepTurn s t
 commit_step s t asks (inl is) = subst (IsStepTurn s) (sym is) tt
-commit_step s t asks (inr (inl is)) = subst (IsStepTurn s) (sym is) asks
-commit_step s t asks (inr (inr is)) = subst (IsStepTurn s) (sym is) (asks_other s asks)
+commit_step s t asks (inr is) = subst (IsStepTurn s) (sym is) asks
 
 pub commit_try : (t : Turn) → IsCommitTurn t → IsTryTurn t
 commit_try t (inl is) = subst IsTryTurn (sym is) tt
-commit_try t (inr (inl is)) = subst IsTryTurn (sym is) tt
-commit_try t (inr (inr is)) = subst IsTryTurn (sym is) tt
+commit_try t (inr is) = subst IsTryTurn (sym is) tt
 
 pub finish_step : (s : ServerStep) (end : ServeEnd) (t : Turn) → asks_commit s ≡ true → IsStepTurn s (End end)
     → IsCommitTurn t ⊎ (t ≡ End end) → IsStepTurn s t

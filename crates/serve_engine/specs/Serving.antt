@@ -106,7 +106,7 @@ IfSettled (End end) P = UnlessMemory end P
 abbrev pub IsEventTurn : Turn → Type 0
 IsEventTurn turn = (turn ≡ On) ⊎ (turn ≡ End Memory)
 
--- unless the disk is full, or has failed, or memory ran out
+-- unless what came waits for a disk with room or for memory, or the disk has failed, or memory ran out
 abbrev pub UnlessStopped : Turn → Bool → Type 0 → Type 0
 UnlessStopped On full P = full ≡ false → P
 UnlessStopped (End Finished) full P = P
@@ -145,25 +145,26 @@ abbrev pub is_over : Option Given → Bool
 is_over None = false
 is_over (Some g) = is_last g.step
 
--- it says that a connection was opened
-abbrev pub is_opening : ServerStep → Bool
-is_opening (step.Opened conn listener framing peer) = true
-is_opening (step.Piece conn len) = false
-is_opening (step.Ended conn end) = false
-is_opening (step.Datagram listener peer len) = false
-is_opening (step.TurnedAway listener framing peer) = false
-is_opening step.Tick = false
-is_opening step.InputEnded = false
-is_opening step.Finished = false
-is_opening (step.Failed fault) = false
+-- it says what an open connection or a datagram had
+abbrev pub is_of_stream : ServerStep → Bool
+is_of_stream (step.Opened conn listener framing peer) = false
+is_of_stream (step.Piece conn len) = true
+is_of_stream (step.Ended conn end) = true
+is_of_stream (step.Datagram listener peer len) = true
+is_of_stream (step.TurnedAway listener framing peer) = false
+is_of_stream step.Tick = false
+is_of_stream step.InputEnded = false
+is_of_stream step.Finished = false
+is_of_stream (step.Failed fault) = false
 
--- why a step ends a run: it says so; or the disk failed at a commit; or memory ran out, but for an opening
+-- why a step ends a run: it says so; or the disk failed at a commit; or memory ran out for what a connection or a
+-- datagram had
 abbrev pub IsStepTurn : ServerStep → Turn → Type 0
 IsStepTurn s On = Unit {0}
 IsStepTurn s (End Finished) = s ≡ step.Finished
 IsStepTurn s (End (Source fault)) = s ≡ step.Failed fault
 IsStepTurn s (End Disk) = asks_commit s ≡ true
-IsStepTurn s (End Memory) = is_opening s ≡ false
+IsStepTurn s (End Memory) = is_of_stream s ≡ true
 IsStepTurn s (End Endless) = ⊥
 
 -- the same where the disk was full and was tried again
@@ -172,7 +173,7 @@ IsTryTurn On = Unit {0}
 IsTryTurn (End Finished) = ⊥
 IsTryTurn (End (Source fault)) = ⊥
 IsTryTurn (End Disk) = Unit {0}
-IsTryTurn (End Memory) = Unit {0}
+IsTryTurn (End Memory) = ⊥
 IsTryTurn (End Endless) = ⊥
 
 -- of the step of a turn
@@ -191,17 +192,17 @@ Accepts entries stands old new e lost turn was now =
     × (taken : IsAccepted (manner_of old.collector) before e here lost turn) × KeepsEvent e taken was now
     × IfSettled turn (NoneWaits new.collector)
 
--- a commit ends a run only where the disk failed or memory ran out
+-- a commit ends a run only where the disk failed
 abbrev pub IsCommitTurn : Turn → Type 0
-IsCommitTurn turn = (turn ≡ On) ⊎ ((turn ≡ End Disk) ⊎ (turn ≡ End Memory))
+IsCommitTurn turn = (turn ≡ On) ⊎ (turn ≡ End Disk)
 
--- by what fault: a disk that is full is told so, and it goes on; it ends for one that failed, and where memory ran out
+-- by what fault: for a full disk and for want of memory it waits, and goes on; for a disk that failed it ends
 abbrev pub FaultsAs : KeepFault → Bool → Turn → Type 0
 FaultsAs keep.Full full turn = (turn ≡ On) × (full ≡ true)
 FaultsAs keep.Failed full turn = turn ≡ End Disk
-FaultsAs keep.Memory full turn = turn ≡ End Memory
+FaultsAs keep.Memory full turn = (turn ≡ On) × (full ≡ true)
 
--- where the disk is full, that was told
+-- where what came waits, that was told
 abbrev pub IsToldFull : Bool → Bool → Type 0
 IsToldFull full told = full ≡ true → told ≡ true
 

@@ -297,17 +297,17 @@ impl<N: Output + Drop, R: Output + Drop> Report<N, R> {
         }
     }
 
-    /// Tells that the disk is full, unless that was told before.
-    pub(crate) fn tell_full(&mut self, told: bool)
+    /// Tells by this line why what came waits, unless that was told before.
+    pub(crate) fn tell_waiting(&mut self, line: &[u8], told: bool)
         ensures kept { KeepsSilent false (kept_in R.state self.old) (kept_in R.state self.new) }
         ensures once { told ≡ true → self.new ≡ self.old }
     {
         if !told {
-            self.tell_text(b"store full\n");
+            self.tell_text(line);
         }
     }
 
-    /// Tells that the disk has room again, where it was told that it is full.
+    /// Tells that the store has room again, where it was told that what came waits.
     pub(crate) fn tell_room(&mut self, told: bool)
         ensures kept { KeepsSilent false (kept_in R.state self.old) (kept_in R.state self.new) }
         ensures once { told ≡ false → self.new ≡ self.old }

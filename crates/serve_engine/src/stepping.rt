@@ -207,7 +207,21 @@ impl<S: Store + Drop, K: Keeping<S> + Drop, N: Output + Drop, R: Output + Drop> 
         Turn::On
     }
 
-    // What a fault of the disk comes to. That it is full is told once.
+    // Nothing is read until what waits is committed, which is tried again. Why is told once.
+    fn wait(&mut self, line: &[u8]) -> Turn
+        ensures same { self.new.intake ≡ self.old.intake }
+        ensures turn { result ≡ On }
+        ensures full { self.new.full ≡ true }
+        ensures told { self.new.told ≡ true }
+        ensures kept { KeepsSilent false (kept_in R.state self.old.report) (kept_in R.state self.new.report) }
+    {
+        self.report.tell_waiting(line, self.told);
+        self.told = true;
+        self.full = true;
+        Turn::On
+    }
+
+    // What a fault of what keeps the records comes to: one of the disk ends the run.
     fn fault(&mut self, fault: KeepFault) -> Turn
         ensures same { self.new.intake ≡ self.old.intake }
         ensures turn { FaultsAs fault self.new.full result }
@@ -215,17 +229,12 @@ impl<S: Store + Drop, K: Keeping<S> + Drop, N: Output + Drop, R: Output + Drop> 
         ensures kept { KeepsSilent false (kept_in R.state self.old.report) (kept_in R.state self.new.report) }
     {
         match fault {
-            KeepFault::Full => {
-                self.report.tell_full(self.told);
-                self.told = true;
-                self.full = true;
-                Turn::On
-            }
+            KeepFault::Full => self.wait(b"store full\n"),
+            KeepFault::Memory => self.wait(b"store waits: want of memory\n"),
             KeepFault::Failed => {
                 self.report.tell_text(b"store fault\n");
                 Turn::End(ServeEnd::Disk)
             }
-            KeepFault::Memory => Turn::End(ServeEnd::Memory),
         }
     }
 
@@ -338,7 +347,7 @@ impl<S: Store + Drop, K: Keeping<S> + Drop, N: Output + Drop, R: Output + Drop> 
         }
     }
 
-    // Ends so, unless the disk is full: then the source is asked again.
+    // Ends so, unless what came waits for a disk with room or for memory: then it is tried again.
     fn end_with(&mut self, end: ServeEnd) -> Turn
         ensures same { self.new.intake ≡ self.old.intake }
         ensures full { self.new.full ≡ self.old.full }
@@ -367,7 +376,7 @@ impl<S: Store + Drop, K: Keeping<S> + Drop, N: Output + Drop, R: Output + Drop> 
         }
     }
 
-    // The disk was full: it is opened again, and what waits is committed.
+    // What came waits: the store is opened again, and it is committed.
     pub(crate) fn try_again(&mut self, alloc: Global) -> Turn
         ensures served { CommitsAll S.entries K.stands self.old.intake self.new.intake self.new.full result }
         ensures settled { NoneWaits self.old.intake.collector → NoneWaits self.new.intake.collector }

@@ -15,7 +15,7 @@ const A: &[u8] = b"<13>1 - h a - - - x";
 
 const B: &[u8] = b"<14>1 2024-02-29T23:30:00.000000Z h a - - - y";
 
-// Counts what it is handed. Its disk is full at some commits, and fails at one.
+// Counts what it is handed. Some commits have no room, on a disk or in memory, and one fails.
 #[derive(Drop)]
 struct CountKeeper {
     held: u64,
@@ -23,6 +23,7 @@ struct CountKeeper {
     commits: u64,
     full_from: u64,
     full_until: u64,
+    want: KeepFault,
     fails_at: u64,
     checkpoints: u64,
 }
@@ -43,7 +44,7 @@ impl Keeping<PagedArchive> for CountKeeper {
             return Err(KeepFault::Failed);
         }
         if self.full_from <= self.commits && self.commits < self.full_until {
-            return Err(KeepFault::Full);
+            return Err(self.want);
         }
         self.committed = self.held;
         Ok(())
@@ -83,6 +84,7 @@ fn keeper() -> CountKeeper {
         commits: 0,
         full_from: 0,
         full_until: 0,
+        want: KeepFault::Full,
         fails_at: 0,
         checkpoints: 0,
     }
@@ -258,6 +260,29 @@ fn a_full_disk_stops_reading(rt: HostRuntime) -> Result<(), Fail> {
     assert_eq!(rt; done.pauses, 3);
     assert_eq!(rt; done.counts.batches, 2);
     let notes = b"store full\n\
+        received 2 new 2 held 0 refused 0 too-long 0 connections 0 batches 2 octets 64 quiet 0\n\
+        store has room\n";
+    assert_eq!(rt; done.notes.as_slice(), notes.as_slice());
+    Ok(())
+}
+
+#[test]
+fn want_of_memory_at_a_commit_stops_reading(rt: HostRuntime) -> Result<(), Fail> {
+    let steps = [
+        (datagram(None)?, A),
+        (ServerStep::Tick, b"".as_slice()),
+        (datagram(None)?, B),
+        (ServerStep::Tick, b"".as_slice()),
+    ];
+    let mut keeper = keeper();
+    keeper.full_from = 1;
+    keeper.full_until = 4;
+    keeper.want = KeepFault::Memory;
+    let done = served(rt.alloc(), keeper, &steps)?;
+    assert_eq!(rt; done.end, ServeEnd::Finished);
+    assert_eq!(rt; done.committed, 2);
+    assert_eq!(rt; done.pauses, 3);
+    let notes = b"store waits: want of memory\n\
         received 2 new 2 held 0 refused 0 too-long 0 connections 0 batches 2 octets 64 quiet 0\n\
         store has room\n";
     assert_eq!(rt; done.notes.as_slice(), notes.as_slice());

@@ -2,8 +2,8 @@
 
 use libc::{STDIN_FILENO, net as c};
 use socket_source::{
-    ConnectionEnd, Listener, MemorySource, OpenFault, PIECE_MAX, ServerSource, ServerStep,
-    SocketSource, SourceFault, SourceOptions,
+    ConnectionEnd, Listener, MemorySource, OpenFault, PIECE_MAX, STEPS_BETWEEN, ServerSource,
+    ServerStep, SocketSource, SourceFault, SourceOptions,
 };
 use std::alloc::Global;
 use std::io::{self, ErrorKind, Read, Write};
@@ -203,6 +203,42 @@ fn datagrams_come_whole_and_in_order(rt: HostRuntime) -> Result<(), Fail> {
     };
     expect_next(&rt, &mut source, step, b"path")?;
     fs::remove_file(&rt, path.as_str())?;
+    Ok(())
+}
+
+#[test]
+fn a_datagram_comes_between_the_steps_of_connections(rt: HostRuntime) -> Result<(), Fail> {
+    let any = address("127.0.0.1:0")?;
+    let listeners = [Listener::Counted(any), Listener::Udp(any)];
+    let mut options = options(false);
+    options.connections = 200;
+    options.per_peer = 200;
+    let mut source = SocketSource::open(&rt, rt.alloc(), &listeners, options)?;
+    let counted = source.local_addr(0).ok_or("no address")?;
+    let mut clients = Vec::new(rt.alloc());
+    for conn in 0..200u32 {
+        let client = TcpStream::connect(&rt, counted)?;
+        expect_next(&rt, &mut source, opened(conn, 0, &client)?, b"")?;
+        clients.push(client)?;
+    }
+    for client in clients.iter_mut() {
+        client.write_all(b"one.")?;
+    }
+    let sender = UdpSocket::bind(&rt, "127.0.0.1:0")?;
+    sender.send_to(b"d", source.local_addr(1).ok_or("no address")?)?;
+    let mut buf = [0u8; 16];
+    let mut pieces = 0usize;
+    for _step in 0..201 {
+        match source.next(&mut buf) {
+            ServerStep::Piece { .. } => pieces = pieces.saturating_add(1),
+            ServerStep::Datagram { .. } => break,
+            _ => {}
+        }
+    }
+    assert!(rt;
+        pieces <= STEPS_BETWEEN,
+        "{pieces} steps of connections came before"
+    );
     Ok(())
 }
 

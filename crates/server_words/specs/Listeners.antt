@@ -4,6 +4,7 @@ use Rattle.std.specs.Prelude.{unwrap_or}
 use Rattle.std.specs.Str.{bytes_eq}
 use Rattle.std.specs.declared.net.socket_addr.SocketAddr.{SocketAddr}
 use Rattle.clap.specs.Walk.{Row, Text, all_of}
+use Rattle.option_values.specs.Values.{all_given}
 use Rattle.server_words.specs.Addresses.{address_in}
 use Rattle.server_words.specs.declared.listeners.InheritedKind.{InheritedKind}
 use Rattle.server_words.specs.declared.listeners.InheritedKind.TheVariants as kind
@@ -48,7 +49,8 @@ abbrev pub listener_of : ListenerOption → Text → Option ListenerAsked
 listener_of option.Udp text = option_map (λ a. Udp a) (address_in text)
 listener_of option.Counted text = option_map (λ a. Counted a) (address_in text)
 listener_of option.Lf text = option_map (λ a. Lf a) (address_in text)
-listener_of option.Unix text = Some (Unix text)
+listener_of option.Unix [] = None
+listener_of option.Unix (c ∷ cs) = Some (Unix (c ∷ cs))
 listener_of option.Inherited text = option_map (λ kind. Inherited kind) (inherited_of text)
 
 -- what each value of an option asks for, in the order of the words
@@ -59,12 +61,6 @@ asked_in option rows = map (listener_of option) (unwrap_or (all_of (name_of opti
 abbrev pub all_asked : List ListenerOption → List Row → List (Option ListenerAsked)
 all_asked [] rows = []
 all_asked (option ∷ options) rows = asked_in option rows ++ all_asked options rows
-
--- all items, where each is given
-abbrev pub all_given : {X : Type 0} → List (Option X) → Option (List X)
-all_given [] = Some []
-all_given (None ∷ rest) = None
-all_given (Some x ∷ rest) = option_map (λ xs. x ∷ xs) (all_given rest)
 
 -- what the options ask for, option by option, where none is refused; there may be nothing
 abbrev pub listeners_in : List Row → Option (List ListenerAsked)

@@ -1,5 +1,6 @@
 -- What the words of `serve` ask for.
-use Rattle.std.specs.Prelude.{ℕ, ◌/◌, List, [], ◌∷◌, None, Option, Some, codes, map, max, option_and_then, option_map}
+use Rattle.std.specs.Prelude.{ℕ, ◌/◌, List, [], ◌∷◌, None, Option, Some, codes, if◌then◌else◌, map, max, nat_le}
+use Rattle.std.specs.Prelude.{option_and_then, option_map}
 use Rattle.clap.specs.Walk.{Row, Text, first_of}
 use Rattle.option_values.specs.Numbers.{number_in}
 use Rattle.option_values.specs.Readings.{reading_in}
@@ -21,18 +22,19 @@ serve_asked words = record {
   options = words.options;
 }
 
--- how many connections of one address may be open at once: a quarter of all, and at least one, unless it is given
-abbrev pub per_peer_of : Option ℕ → ℕ → ℕ
-per_peer_of None connections = max (connections / 4) 1
-per_peer_of (Some number) connections = number
+-- how many connections of one address may be open at once: a quarter of all, and at least one, unless it is given,
+-- and not more than all
+abbrev pub per_peer_of : Option ℕ → ℕ → Option ℕ
+per_peer_of None connections = Some (max (connections / 4) 1)
+per_peer_of (Some number) connections = if nat_le number connections then Some number else None
 
 -- the values of the options of the server
 abbrev pub options_in : List Row → Option ServeOptions
 options_in rows =
-    option_and_then (λ connections. option_and_then (λ given. option_and_then (λ idle. option_and_then (λ commit.
-    option_and_then (λ checkpoint. option_map (λ way. record {
+    option_and_then (λ connections. option_and_then (λ given. option_and_then (λ per_peer. option_and_then (λ idle.
+    option_and_then (λ commit. option_and_then (λ checkpoint. option_map (λ way. record {
       connections = connections;
-      per_peer = per_peer_of given connections;
+      per_peer = per_peer;
       idle_seconds = idle;
       commit_millis = commit;
       checkpoint_mib = checkpoint;
@@ -40,7 +42,7 @@ options_in rows =
       reading = way;
     }) (reading_in rows)) (option_and_then (number_in 1 2_048) (first_of (codes "checkpoint") rows)))
     (option_and_then (number_in 0 3_600_000) (first_of (codes "commit") rows)))
-    (optional (number_in 1 31_536_000) (first_of (codes "idle") rows)))
+    (optional (number_in 1 31_536_000) (first_of (codes "idle") rows))) (per_peer_of given connections))
     (optional (number_in 1 16_384) (first_of (codes "per-peer") rows)))
     (option_and_then (number_in 1 16_384) (first_of (codes "connections") rows))
 

@@ -3,7 +3,8 @@
 ghost use Rattle.std.specs.Prelude.{◌≡◌, ◌++◌, IfOk, map, option_map};
 ghost use Rattle.std.specs.Result.{result_ok};
 ghost use Rattle.clap.specs.Words.{found_of, rows_of};
-ghost use Rattle.server_words.specs.Listeners.{all_asked, all_given, asked_in, inherited_of, listener_asked, listener_of};
+ghost use Rattle.server_words.specs.Listeners.{all_asked, asked_in, inherited_of, listener_asked, listener_of};
+ghost use Rattle.option_values.specs.Values.{all_given};
 ghost use Rattle.server_words.specs.Listeners.{listeners_in, name_of};
 
 use crate::address::address;
@@ -82,6 +83,7 @@ fn listener<'a>(option: ListenerOption, text: &'a str) -> Option<ListenerWords<'
         ListenerOption::Udp => Some(ListenerWords::Udp(address(text)?)),
         ListenerOption::Counted => Some(ListenerWords::Counted(address(text)?)),
         ListenerOption::Lf => Some(ListenerWords::Lf(address(text)?)),
+        ListenerOption::Unix if text.is_empty() => None,
         ListenerOption::Unix => Some(ListenerWords::Unix(text)),
         ListenerOption::Inherited => Some(ListenerWords::Inherited(inherited(text)?)),
     }

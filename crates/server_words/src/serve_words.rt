@@ -19,7 +19,7 @@ use syslog_legacy::FrameReading;
 pub struct ServeOptions {
     /// How many connections may be open at once, 1 to 16,384.
     pub connections: u32,
-    /// How many connections of one address may be open at once, 1 to 16,384.
+    /// How many connections of one address may be open at once, 1 to `connections`.
     pub per_peer: u32,
     /// After how many seconds without an octet a connection is closed, 1 to 31,536,000; None means
     /// never.
@@ -48,13 +48,17 @@ pub struct ServeWords<'a> {
 }
 
 // How many connections of one address may be open at once: a quarter of all, and at least one,
-// unless it is given.
-fn per_peer(given: Option<u32>, connections: u32) -> u32
-    ensures { result ≡ per_peer_of given connections }
+// unless it is given; it may not be more than all.
+fn per_peer(given: Option<u32>, connections: u32) -> Result<u32, Refusal<'static>>
+    ensures { result_ok result ≡ per_peer_of given connections }
 {
     match given {
-        Some(number) => number,
-        None => (connections / 4).max(1),
+        Some(number) if number > connections => Err(Refusal::Above {
+            option: PER_PEER,
+            bound: CONNECTIONS,
+        }),
+        Some(number) => Ok(number),
+        None => Ok((connections / 4).max(1)),
     }
 }
 
@@ -64,13 +68,14 @@ fn options<'a>(matches: &ArgMatches<'a>) -> Result<ServeOptions, Refusal<'a>>
 {
     let connections = number(matches, &CONNECTIONS)?;
     let given = optional_number(matches, &PER_PEER)?;
+    let per_peer = per_peer(given, connections)?;
     let idle_seconds = optional_number(matches, &IDLE)?;
     let commit_millis = number(matches, &COMMIT)?;
     let checkpoint_mib = number(matches, &CHECKPOINT)?;
     let reading = reading_of_matches(matches)?;
     Ok(ServeOptions {
         connections,
-        per_peer: per_peer(given, connections),
+        per_peer,
         idle_seconds,
         commit_millis,
         checkpoint_mib,

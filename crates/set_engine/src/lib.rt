@@ -11,4 +11,4 @@ mod select;
 pub use combination::Combination;
 pub use digest::digest_archive;
 pub use join::{join_archives, report_on_input};
-pub use select::select_archive;
+pub use select::{report_select_fault, select_archive};

@@ -1,6 +1,7 @@
 -- The share of each socket.
-use Rattle.std.proofs.Common.{◌≡◌, ℕ, List, ◌⊎◌, ◌≤◌, inl, inr, subst, sym, arith}
+use Rattle.std.proofs.Common.{◌≡◌, ℕ, ◌+◌, ◌-◌, ◌*◌, ◌^◌, ◌<◌, List, ◌⊎◌, ◌≤◌, inl, inr, lit<, min, subst, sym, arith}
 use Rattle.std.specs.Prelude.{Option, Some, None, ◌/◌, IfSome}
+use Rattle.std.proofs.lemmas.Bool.{cases_lt}
 use Rattle.std.proofs.Math.Nat.{div-mul-le_self, mul-le-mul}
 use Rattle.syslog_frame.specs.declared.framing.Framing.{Framing}
 use Rattle.socket_source.specs.Shares.{IsPart, IsPartOfFrames, IsShareOf}
@@ -33,6 +34,29 @@ part_of_less most least round ready fewer n less is_fewer is_less part = elim pa
     together = inr (omega (arith, mul-le-mul is_less is_fewer, all));
   }
 ]
+
+-- what each of so many more would have, where their number is cut at one beyond that of a round
+part_of_more : (most least round parts ready n : ℕ) → parts ≡ min (min ready (2 ^ 64 - 1) + 1) (2 ^ 64 - 1)
+    → round < 2 ^ 64 - 1 → IsPart most least round parts n → IsPart most least round (ready + 1) n
+part_of_more most least round parts ready n is small part = elim part.together [
+  | inl few ↦ record { within = part.within; together = inl few }
+  | inr all ↦ elim (cases_lt (2 ^ 64 - 1) (ready + 1)) [
+    | inr fits ↦
+        let same : parts ≡ ready + 1 = omega (arith, is) in
+        record { within = part.within; together = inr (subst (λ p. n * p ≤ round) same all) }
+    | inl beyond ↦
+        let cut : parts ≡ 2 ^ 64 - 1 = omega (arith, is) in
+        let none : n ≤ 0 = omega (arith, subst (λ p. n * p ≤ round) cut all) in
+        record { within = part.within; together = inl (omega (arith, none)) }
+  ]
+]
+
+pub share_of_more : (share : Share) (parts ready : ℕ) → parts ≡ min (min ready (2 ^ 64 - 1) + 1) (2 ^ 64 - 1)
+    → IsShareOf parts share → IsShareOf (ready + 1) share
+share_of_more share parts ready is of = record {
+  octets = part_of_more TURN_OCTETS LEAST_OCTETS ROUND_OCTETS parts ready share.octets is (lit< tt) of.octets;
+  frames = part_of_more TURN_FRAMES LEAST_FRAMES ROUND_FRAMES parts ready share.frames is (lit< tt) of.frames;
+}
 
 pub if_some_implies : {X : Type 0} (P Q : X → Type 0) → ((x : X) → P x → Q x) → (o : Option X) → IfSome o P → IfSome o Q
 if_some_implies P Q implies None holds = holds

@@ -1,12 +1,13 @@
 pub mod Steps
+pub mod Waiting
 pub mod Scripts
 pub mod Refusals
 pub mod Sockets
 pub mod Standings
-pub mod Waiting
 pub mod Opens
 pub mod Shares
 pub mod Turns
 pub mod Framings
 pub mod Lines
 pub mod Peers
+pub mod Kinds

@@ -1,12 +1,39 @@
 -- The sockets that have something, in the order of their turns.
-use Rattle.std.specs.Prelude.{ℕ, List, ◌++◌}
+use Rattle.std.specs.Prelude.{◌≡◌, ℕ, ◌+◌, true, false, List, ◌++◌, is_some, length}
 use Rattle.std.specs.Option.{option_to_list}
+use Rattle.std.specs.VecDeque.{deque_capacity}
+use Rattle.socket_source.specs.Kinds.{has_datagrams}
+use Rattle.socket_source.specs.Waiting.{Line, Queues}
 use Rattle.socket_source.specs.declared.ready.ReadyQueue.{ReadyQueue}
+use Rattle.socket_source.specs.declared.ready_sockets.ReadySockets.{ReadySockets}
 use Rattle.socket_source.specs.declared.sockets.Sockets.{Sockets}
 
 -- the number that goes on with its turn, and those that wait for one
-abbrev pub line_of : ReadyQueue → List ℕ
-line_of ready = option_to_list ready.going ++ ready.waiting.items
+abbrev pub queue_of : ReadyQueue → List ℕ
+queue_of ready = option_to_list ready.going ++ ready.waiting.items
 
-abbrev pub line : {R : Type 0} → Sockets R → List ℕ
+abbrev pub line_of : ReadySockets → Line
+line_of ready = record {
+  datagrams = queue_of ready.datagrams;
+  others = queue_of ready.others;
+  goes_on = is_some ready.datagrams.going;
+  between = ready.between;
+}
+
+abbrev pub line : {R : Type 0} → Sockets R → Line
 line s = line_of s.ready
+
+-- how many sockets have something
+abbrev pub ready_in : Line → ℕ
+ready_in l = length l.datagrams + length l.others
+
+-- a number is put into a queue
+abbrev pub QueuesIn : ReadyQueue → ReadyQueue → ℕ → Type 0
+QueuesIn old new number = Queues (deque_capacity old.waiting) old.queued.items new.queued.items
+    old.waiting.items new.waiting.items number
+
+-- the number of a datagram socket is put into the queue of these, and any other into the other queue
+pub record Puts (old new : ReadySockets) (number : ℕ) : Type 0 where
+  pub datagrams : has_datagrams old.kinds.items number ≡ true → QueuesIn old.datagrams new.datagrams number × (new.others ≡ old.others)
+  pub others : has_datagrams old.kinds.items number ≡ false → QueuesIn old.others new.others number × (new.datagrams ≡ old.datagrams)
+  pub kinds : new.kinds ≡ old.kinds

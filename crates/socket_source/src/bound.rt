@@ -124,6 +124,15 @@ fn receive_from(
 }
 
 impl Bound {
+    ghost use Rattle.socket_source.specs.Kinds.{is_datagrams};
+
+    /// Whether it is a socket of datagrams.
+    pub(crate) fn is_datagrams(&self) -> bool
+        ensures { result ≡ is_datagrams self.now }
+    {
+        matches!(self, Bound::Datagrams { .. })
+    }
+
     /// Has the system report the socket under a number.
     pub(crate) fn register(&mut self, registry: &Registry, number: usize) -> io::Result<()> {
         let token = Token(number);

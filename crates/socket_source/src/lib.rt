@@ -21,6 +21,7 @@ mod opening;
 mod options;
 mod peers;
 mod ready;
+mod ready_sockets;
 mod refusal;
 mod share;
 mod socket_source;
@@ -31,8 +32,8 @@ mod system;
 mod unix_path;
 
 pub use limits::{
-    ACCEPTS_A_TURN, CONNECTIONS_MAX, DATAGRAMS_A_TURN, LEAST_FRAMES, LEAST_OCTETS, PIECE_MAX,
-    ROUND_FRAMES, ROUND_OCTETS, TURN_FRAMES, TURN_OCTETS,
+    ACCEPTS_A_TURN, CONNECTIONS_MAX, DATAGRAM_TURNS_A_ROUND, DATAGRAMS_A_TURN, LEAST_FRAMES,
+    LEAST_OCTETS, PIECE_MAX, ROUND_FRAMES, ROUND_OCTETS, STEPS_BETWEEN, TURN_FRAMES, TURN_OCTETS,
 };
 pub use listener::{Inherited, Listener};
 pub use memory_source::MemorySource;

@@ -21,16 +21,24 @@ pub const ROUND_OCTETS: usize = 1_048_576;
 
 /// The most frames that begin in what one turn each of all ready sockets gives, unless each has no
 /// more than `LEAST_FRAMES`.
-pub const ROUND_FRAMES: usize = 16_384;
+pub const ROUND_FRAMES: usize = 8_192;
 
 /// How many octets a turn of a connection may have, however many sockets are ready.
 pub const LEAST_OCTETS: usize = 1_024;
 
 /// How many frames may begin in a turn of a connection, however many sockets are ready.
-pub const LEAST_FRAMES: usize = 16;
+pub const LEAST_FRAMES: usize = 8;
 
 /// The most datagrams of a socket in one turn.
 pub const DATAGRAMS_A_TURN: usize = 64;
+
+/// How many turns datagram sockets have, if they have something, in a round of all other sockets that are
+/// ready: so between two of them comes a sixteenth of a round, or one step of another socket.
+pub const DATAGRAM_TURNS_A_ROUND: usize = 16;
+
+/// The most steps of other sockets between two turns of datagram sockets that have something, however
+/// many others are ready.
+pub const STEPS_BETWEEN: usize = 64;
 
 /// The most connections of a listener in one turn.
 pub const ACCEPTS_A_TURN: usize = 16;

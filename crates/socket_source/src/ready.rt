@@ -1,10 +1,9 @@
 //! The sockets that may have something.
-ghost use Rattle.std.specs.Prelude.{◌≡◌, ◌⊎◌, ◌+◌, ◌++◌, ◌<◌, ◌≤◌, [], length, IfOk, IsSome, None, vec_len};
+ghost use Rattle.std.specs.Prelude.{◌≡◌, ◌⊎◌, ◌+◌, ◌++◌, ◌<◌, ◌≤◌, [], length, IfNone, IfOk, IsSome, None, is_some, vec_len};
 ghost use Rattle.std.specs.Option.{option_to_list};
 ghost use Rattle.std.specs.VecDeque.{deque_capacity};
 ghost use Rattle.socket_source.specs.Waiting.{KeepsOrder, Queues, Returns};
 
-use mio::Events;
 use std::alloc::{AllocError, Global};
 use std::collections::VecDeque;
 
@@ -29,12 +28,12 @@ pub(crate) struct ReadyQueue {
 }
 
 impl ReadyQueue {
-    ghost use Rattle.socket_source.specs.Lines.{line_of};
+    ghost use Rattle.socket_source.specs.Lines.{queue_of};
 
     /// A queue in which no number waits, with room for those below `count`. It fails only when out
     /// of memory.
     pub(crate) fn new(alloc: Global, count: usize) -> Result<ReadyQueue, AllocError>
-        ensures empty { IfOk result (λ ready. line_of ready ≡ []) }
+        ensures empty { IfOk result (λ ready. queue_of ready ≡ []) }
         ensures room { IfOk result (λ ready. vec_len ready.queued ≡ count) }
     {
         Ok(ReadyQueue {
@@ -49,8 +48,8 @@ impl ReadyQueue {
     pub(crate) fn push(&mut self, number: usize)
         ensures queued { Queues (deque_capacity self.old.waiting) self.old.queued.items
             self.new.queued.items self.old.waiting.items self.new.waiting.items number }
-        ensures order { KeepsOrder 0 (line_of self.old) (line_of self.new) }
-        ensures longer { length (line_of self.new) ≤ length (line_of self.old) + 1 }
+        ensures order { KeepsOrder 0 (queue_of self.old) (queue_of self.new) }
+        ensures longer { length (queue_of self.new) ≤ length (queue_of self.old) + 1 }
         ensures going { self.new.going ≡ self.old.going }
         ensures steps { self.new.steps ≡ self.old.steps }
     {
@@ -60,18 +59,10 @@ impl ReadyQueue {
         }
     }
 
-    /// Puts the numbers that the system reports behind those that wait.
-    pub(crate) fn push_reported(&mut self, events: &Events)
-        ensures { KeepsOrder 0 (line_of self.old) (line_of self.new) }
-    {
-        for event in events.iter() {
-            self.push(event.token().0);
-        }
-    }
-
     // Takes the number that has waited longest.
     fn pop(&mut self) -> Option<usize>
         ensures first { self.old.waiting.items ≡ option_to_list result ++ self.new.waiting.items }
+        ensures none { IfNone result (self.old.waiting.items ≡ []) }
         ensures going { self.new.going ≡ self.old.going }
     {
         let number = self.waiting.pop_front()?;
@@ -84,7 +75,8 @@ impl ReadyQueue {
     /// Takes the number that has its turn: the one that goes on, or else the one that has waited
     /// longest.
     pub(crate) fn next(&mut self) -> Option<usize>
-        ensures first { line_of self.old ≡ option_to_list result ++ line_of self.new }
+        ensures first { queue_of self.old ≡ option_to_list result ++ queue_of self.new }
+        ensures none { IfNone result (queue_of self.old ≡ []) }
         ensures over { self.new.going ≡ None }
     {
         if let Some(number) = self.going {
@@ -98,8 +90,8 @@ impl ReadyQueue {
     /// A number has had a step, and has something left. It goes on while its turn may have more
     /// steps, and then waits behind the others.
     pub(crate) fn stay(&mut self, number: usize, most: usize)
-        ensures stays { Returns number (line_of self.old) (line_of self.new) }
-        ensures longer { length (line_of self.new) ≤ length (line_of self.old) + 1 }
+        ensures stays { Returns number (queue_of self.old) (queue_of self.new) }
+        ensures longer { length (queue_of self.new) ≤ length (queue_of self.old) + 1 }
         ensures few { IsSome self.new.going → self.new.going ≡ self.old.going ⊎ self.new.steps < most }
         ensures counted { self.new.steps ≡ self.old.steps ⊎ self.new.steps ≡ self.old.steps + 1 }
     {
@@ -112,9 +104,16 @@ impl ReadyQueue {
         }
     }
 
+    /// Whether a number goes on with its turn.
+    pub(crate) fn is_going(&self) -> bool
+        ensures { result ≡ is_some self.now.going }
+    {
+        self.going.is_some()
+    }
+
     /// How many numbers wait or go on.
     pub(crate) fn len(&self) -> usize
-        ensures { result ≡ length (line_of self.now) }
+        ensures { result ≡ length (queue_of self.now) }
     {
         self.waiting.len() + usize::from(self.going.is_some())
     }

@@ -62,7 +62,7 @@ impl<'a, R: Net + Files + Clock> SocketSource<'a, R> {
 
 impl<'a, R: Clock> ServerSource for SocketSource<'a, R> {
     ghost use Rattle.std.specs.Prelude.{None, length};
-    ghost use Rattle.socket_source.specs.Lines.{line};
+    ghost use Rattle.socket_source.specs.Lines.{line, ready_in};
     ghost use Rattle.socket_source.specs.Steps.{GaveStep, counts_of};
     ghost use Rattle.socket_source.specs.Turns.{IsBounded};
     ghost use Rattle.socket_source.specs.Standings.{framings, standing};
@@ -77,7 +77,7 @@ impl<'a, R: Clock> ServerSource for SocketSource<'a, R> {
         ensures gave { GaveStep (⟦<SocketSource<'a, R> as ServerSource>⟧.state self.old)
             (⟦<SocketSource<'a, R> as ServerSource>⟧.state self.new) result buf.new }
         // A turn gives a part of what a connection has: a smaller one, the more sockets are ready.
-        ensures bounded { IsBounded (length (line self.new.sockets)) (framings self.new.sockets) buf.new result }
+        ensures bounded { IsBounded (ready_in (line self.new.sockets)) (framings self.new.sockets) buf.new result }
     {
         let step = self.sockets.next_step(buf);
         self.counts.count(step);

@@ -4,7 +4,7 @@ ghost use Rattle.socket_source.specs.Opens.{IsFaultOf};
 ghost use Rattle.socket_source.specs.Shares.{IsShareOf};
 ghost use Rattle.socket_source.specs.Steps.{Becomes, IfLawful, IsLawful, IsVacant, without_open};
 ghost use Rattle.socket_source.specs.Turns.{IfPiece, IsBounded};
-ghost use Rattle.socket_source.specs.Waiting.{KeepsOrder, MovesUp, Returns};
+ghost use Rattle.socket_source.specs.Waiting.{ComesBack, Keeps, TakesTurn};
 
 use crate::connections::Connections;
 use crate::input::{InputTurn, read_input, watch_input};
@@ -14,7 +14,8 @@ use crate::open_fault::OpenFault;
 use crate::open_sockets::{OpenSockets, Taken};
 use crate::opening::{check_descriptors, open_listeners};
 use crate::options::SourceOptions;
-use crate::ready::{INPUT_NUMBER, ReadyQueue, listener_number};
+use crate::ready::{INPUT_NUMBER, listener_number};
+use crate::ready_sockets::{Chosen, ReadySockets};
 use crate::refusal::Retry;
 use crate::share::Share;
 use crate::step::{ConnectionEnd, ServerStep, SourceFault};
@@ -65,7 +66,7 @@ pub(crate) struct Sockets<'a, R> {
     rt: &'a R,
     pub(crate) held: OpenSockets,
     events: Events,
-    pub(crate) ready: ReadyQueue,
+    pub(crate) ready: ReadySockets,
     // how many more steps before the system is asked again
     round: usize,
     // some listener is to be tried again
@@ -86,7 +87,7 @@ pub(crate) struct Sockets<'a, R> {
 }
 
 impl<'a, R: Clock> Sockets<'a, R> {
-    ghost use Rattle.socket_source.specs.Lines.{line};
+    ghost use Rattle.socket_source.specs.Lines.{line, ready_in};
     ghost use Rattle.socket_source.specs.Standings.{framings, standing};
 
     // The number of a connection's socket among all.
@@ -98,7 +99,7 @@ impl<'a, R: Clock> Sockets<'a, R> {
     fn retry_listeners(&mut self)
         ensures standing { standing self.new ≡ standing self.old }
         ensures stays { self.new.held ≡ self.old.held }
-        ensures order { KeepsOrder 0 (line self.old) (line self.new) }
+        ensures order { Keeps (line self.old) (line self.new) }
     {
         if self.later {
             self.later = false;
@@ -109,8 +110,9 @@ impl<'a, R: Clock> Sockets<'a, R> {
     }
 
     // The share of a socket that has its turn, beside those that wait.
+    #[tactic(auto, using(crate::proofs::Shares::share_of_more))]
     fn share(&self) -> Share
-        ensures share { IsShareOf (length (line self.now) + 1) result }
+        ensures share { IsShareOf (ready_in (line self.now) + 1) result }
         ensures some { 0 < result.frames }
     {
         Share::of(self.ready.len().saturating_add(1))
@@ -119,7 +121,7 @@ impl<'a, R: Clock> Sockets<'a, R> {
     // A period is over. A tick behind a read may stand for its own.
     fn tick(&mut self, now: Instant) -> Option<ServerStep>
         ensures lawful { IfLawful (standing self.old) (standing self.new) 0 result }
-        ensures order { KeepsOrder 0 (line self.old) (line self.new) }
+        ensures order { Keeps (line self.old) (line self.new) }
     {
         self.ticked = now;
         self.retry_listeners();
@@ -134,7 +136,7 @@ impl<'a, R: Clock> Sockets<'a, R> {
     // periods pass, unless there are more reads than that.
     fn tick_at_once(&mut self) -> ServerStep
         ensures lawful { IsLawful (standing self.old) (standing self.new) 0 result }
-        ensures order { KeepsOrder 0 (line self.old) (line self.new) }
+        ensures order { Keeps (line self.old) (line self.new) }
     {
         self.early = self.early.saturating_add(1).min(EARLY_MAX);
         ServerStep::Tick
@@ -144,7 +146,7 @@ impl<'a, R: Clock> Sockets<'a, R> {
     pub(crate) fn release(&mut self, conn: u32)
         ensures becomes { Becomes (standing self.old) (standing self.new)
             (without_open conn (standing self.old).live) }
-        ensures order { KeepsOrder 0 (line self.old) (line self.new) }
+        ensures order { Keeps (line self.old) (line self.new) }
     {
         self.held.close(conn);
         self.retry_listeners();
@@ -155,8 +157,8 @@ impl<'a, R: Clock> Sockets<'a, R> {
     fn use_room(&mut self, step: Option<ServerStep>)
         ensures standing { standing self.new ≡ standing self.old }
         ensures stays { self.new.held ≡ self.old.held }
-        ensures order { KeepsOrder 0 (line self.old) (line self.new) }
-        ensures longer { IfSome step (IfPiece (λ conn len. length (line self.new) ≤ length (line self.old))) }
+        ensures order { Keeps (line self.old) (line self.new) }
+        ensures longer { IfSome step (IfPiece (λ conn len. ready_in (line self.new) ≤ ready_in (line self.old))) }
     {
         if let Some(ServerStep::Ended { .. }) = step {
             self.retry_listeners();
@@ -164,15 +166,15 @@ impl<'a, R: Clock> Sockets<'a, R> {
     }
 
     // A socket has had a step, and is tried again in time.
-    fn settle(&mut self, number: usize, most: usize, retry: Retry)
+    fn settle(&mut self, chosen: Chosen, most: usize, retry: Retry)
         ensures standing { standing self.new ≡ standing self.old }
         ensures stays { self.new.held ≡ self.old.held }
-        ensures returns { Returns number (line self.old) (line self.new) }
-        ensures longer { length (line self.new) ≤ length (line self.old) + 1 }
+        ensures comes_back { ComesBack chosen (line self.old) (line self.new) }
+        ensures longer { ready_in (line self.new) ≤ ready_in (line self.old) + 1 }
     {
         match retry {
             Retry::Reported => {}
-            Retry::Now => self.ready.stay(number, most),
+            Retry::Now => self.ready.stay(chosen, most),
             Retry::Later => self.later = true,
         }
     }
@@ -181,8 +183,8 @@ impl<'a, R: Clock> Sockets<'a, R> {
     fn queue(&mut self, number: usize, retry: Retry)
         ensures standing { standing self.new ≡ standing self.old }
         ensures stays { self.new.held ≡ self.old.held }
-        ensures order { KeepsOrder 0 (line self.old) (line self.new) }
-        ensures longer { length (line self.new) ≤ length (line self.old) + 1 }
+        ensures order { Keeps (line self.old) (line self.new) }
+        ensures longer { ready_in (line self.new) ≤ ready_in (line self.old) + 1 }
     {
         if let Retry::Now = retry {
             self.ready.push(number);
@@ -211,8 +213,8 @@ impl<'a, R: Clock> Sockets<'a, R> {
     // read first: it may have come while the process was stopped.
     fn take_silent(&mut self, now: Instant, buf: &mut [u8]) -> Option<ServerStep>
         ensures lawful { IfLawful (standing self.old) (standing self.new) (length buf.new) result }
-        ensures bounded { IfSome result (IsBounded (length (line self.new)) (framings self.new) buf.new) }
-        ensures order { KeepsOrder 0 (line self.old) (line self.new) }
+        ensures bounded { IfSome result (IsBounded (ready_in (line self.new)) (framings self.new) buf.new) }
+        ensures order { Keeps (line self.old) (line self.new) }
     {
         let conn = self.find_silent(now)?;
         let number = self.socket_number(conn);
@@ -227,7 +229,7 @@ impl<'a, R: Clock> Sockets<'a, R> {
     fn end(&mut self, conn: u32, end: ConnectionEnd) -> ServerStep
         requires { (standing self.old).live conn ≡ true }
         ensures lawful { IsLawful (standing self.old) (standing self.new) 0 result }
-        ensures order { KeepsOrder 0 (line self.old) (line self.new) }
+        ensures order { Keeps (line self.old) (line self.new) }
     {
         self.release(conn);
         ServerStep::Ended { conn, end }
@@ -236,7 +238,7 @@ impl<'a, R: Clock> Sockets<'a, R> {
     // Ends a connection that is still open, or finishes where none is.
     fn finish(&mut self, now: Instant) -> ServerStep
         ensures lawful { IsLawful (standing self.old) (standing self.new) 0 result }
-        ensures order { KeepsOrder 0 (line self.old) (line self.new) }
+        ensures order { Keeps (line self.old) (line self.new) }
     {
         match self.held.connections.find_idle(0, now, Duration::ZERO) {
             Some(conn) => self.end(conn, ConnectionEnd::Closed),
@@ -260,7 +262,7 @@ impl<'a, R: Clock> Sockets<'a, R> {
     // none was.
     fn ask(&mut self, now: Instant) -> Option<ServerStep>
         ensures lawful { IfLawful (standing self.old) (standing self.new) 0 result }
-        ensures order { KeepsOrder 0 (line self.old) (line self.new) }
+        ensures order { Keeps (line self.old) (line self.new) }
     {
         let patience = self.patience(now);
         if self
@@ -296,23 +298,23 @@ impl<'a, R: Clock> Sockets<'a, R> {
     }
 
     // A step of a socket.
-    fn take(&mut self, number: usize, now: Instant, buf: &mut [u8]) -> Option<ServerStep>
+    fn take(&mut self, chosen: Chosen, now: Instant, buf: &mut [u8]) -> Option<ServerStep>
         ensures lawful { IfLawful (standing self.old) (standing self.new) (length buf.new) result }
-        ensures bounded { IfSome result (IsBounded (length (line self.new)) (framings self.new) buf.new) }
-        ensures returns { Returns number (line self.old) (line self.new) }
+        ensures bounded { IfSome result (IsBounded (ready_in (line self.new)) (framings self.new) buf.new) }
+        ensures comes_back { ComesBack chosen (line self.old) (line self.new) }
     {
-        match number.checked_sub(1) {
+        match chosen.number().checked_sub(1) {
             Some(socket) => {
                 let share = self.share();
                 let taken = self.held.take(socket, share, now, buf);
                 let most = self.held.steps_of(socket);
-                self.settle(number, most, taken.retry);
+                self.settle(chosen, most, taken.retry);
                 self.use_room(taken.step);
                 taken.step
             }
             None => {
                 let taken = self.take_input(now, buf);
-                self.settle(number, 1, taken.retry);
+                self.settle(chosen, 1, taken.retry);
                 taken.step
             }
         }
@@ -331,8 +333,8 @@ impl<'a, R: Clock> Sockets<'a, R> {
     // One turn.
     fn turn(&mut self, buf: &mut [u8]) -> Option<ServerStep>
         ensures lawful { IfLawful (standing self.old) (standing self.new) (length buf.new) result }
-        ensures bounded { IfSome result (IsBounded (length (line self.new)) (framings self.new) buf.new) }
-        ensures turn { MovesUp (line self.old) (line self.new) }
+        ensures bounded { IfSome result (IsBounded (ready_in (line self.new)) (framings self.new) buf.new) }
+        ensures turn { TakesTurn (line self.old) (line self.new) }
     {
         let Ok(now) = Instant::now(self.rt) else {
             return Some(ServerStep::Failed(SourceFault::Clock));
@@ -354,17 +356,18 @@ impl<'a, R: Clock> Sockets<'a, R> {
     }
 
     // A step of the socket that has its turn. The system is asked for more after each round.
+    #[tactic(auto, using(crate::proofs::Orders::turn_of))]
     fn take_ready(&mut self, now: Instant, buf: &mut [u8]) -> Option<ServerStep>
         ensures lawful { IfLawful (standing self.old) (standing self.new) (length buf.new) result }
-        ensures bounded { IfSome result (IsBounded (length (line self.new)) (framings self.new) buf.new) }
-        ensures turn { MovesUp (line self.old) (line self.new) }
+        ensures bounded { IfSome result (IsBounded (ready_in (line self.new)) (framings self.new) buf.new) }
+        ensures turn { TakesTurn (line self.old) (line self.new) }
     {
         let Some(round) = self.round.checked_sub(1) else {
             return self.ask(now);
         };
         self.round = round;
         match self.ready.next() {
-            Some(number) => self.take(number, now, buf),
+            Some(chosen) => self.take(chosen, now, buf),
             None => None,
         }
     }
@@ -372,7 +375,7 @@ impl<'a, R: Clock> Sockets<'a, R> {
     /// The next step.
     pub(crate) fn next_step(&mut self, buf: &mut [u8]) -> ServerStep
         ensures lawful { IsLawful (standing self.old) (standing self.new) (length buf.new) result }
-        ensures bounded { IsBounded (length (line self.new)) (framings self.new) buf.new result }
+        ensures bounded { IsBounded (ready_in (line self.new)) (framings self.new) buf.new result }
     {
         if buf.is_empty() {
             return ServerStep::Failed(SourceFault::NoRoom);
@@ -388,6 +391,8 @@ impl<'a, R: Clock> Sockets<'a, R> {
 }
 
 impl<'a, R: Net + Files + Clock> Sockets<'a, R> {
+    ghost use Rattle.std.specs.Prelude.{map};
+    ghost use Rattle.socket_source.specs.Kinds.{is_datagrams};
     ghost use Rattle.socket_source.specs.Standings.{standing};
 
     /// Opens the sockets of all listeners, in their order.
@@ -399,6 +404,8 @@ impl<'a, R: Net + Files + Clock> Sockets<'a, R> {
     ) -> Result<Sockets<'a, R>, OpenFault>
         ensures vacant { IfOk result (λ sockets. IsVacant (standing sockets)
             (max 1 (min options.connections CONNECTIONS_MAX)) (length listeners.now)) }
+        ensures kinds { IfOk result (λ sockets. sockets.ready.kinds.items
+            ≡ map is_datagrams sockets.held.listeners.items) }
         ensures told { IfErr result (IsFaultOf (length listeners.now) options.until_eof) }
     {
         if let Err(fault) = check_descriptors(listeners) {
@@ -416,6 +423,7 @@ impl<'a, R: Net + Files + Clock> Sockets<'a, R> {
         }
         let limit = options.connections.clamp(1, CONNECTIONS_MAX);
         let numbers = listener_number(bound.len()).saturating_add(limit);
+        let ready = ReadySockets::new(alloc, numbers, bound.as_slice())?;
         Ok(Sockets {
             rt,
             held: OpenSockets {
@@ -426,7 +434,7 @@ impl<'a, R: Net + Files + Clock> Sockets<'a, R> {
                 arrived: None,
             },
             events: Events::with_capacity(alloc, REPORTED_MAX)?,
-            ready: ReadyQueue::new(alloc, numbers)?,
+            ready,
             round: 0,
             later: false,
             period: options.period.max(Duration::from_millis(PERIOD_MIN_MILLIS)),

@@ -4,7 +4,8 @@ use crate::adding::add_all;
 use crate::watched::{SoundDisk, WatchedDisk};
 use archive_pages::PagedArchive;
 use disk::{Disk, DiskFault};
-use durable_store::{CheckpointFault, DurableStore, OpenFault};
+use durable_store::{CheckpointFault, DurableStore, OpenFault, SetAside};
+use journal::JournalFault;
 use record_store::{KeepFault as SegmentFault, StoreFault};
 use serve_engine::{KeepFault, Keeping, Taken};
 use std::alloc::Global;
@@ -20,6 +21,13 @@ pub struct DiskKeeper<D: Disk> {
 fn fault_of(fault: StoreFault) -> KeepFault {
     match fault {
         StoreFault::Memory => KeepFault::Memory,
+        StoreFault::Folder {
+            fault: DiskFault::Memory,
+        } => KeepFault::Memory,
+        StoreFault::Journal {
+            number: _,
+            fault: JournalFault::Disk(DiskFault::Memory),
+        } => KeepFault::Memory,
         fault if fault.is_full() => KeepFault::Full,
         _ => KeepFault::Failed,
     }
@@ -40,6 +48,7 @@ impl<D: Disk + Drop> DiskKeeper<D> {
     ghost use Rattle.archive_text.specs.Entries.{Entry};
     ghost use Rattle.record_store.specs.Crashes.{Keeps};
     ghost use Rattle.record_store.specs.Stores.{begun};
+    ghost use Rattle.durable_store.specs.Asides.{SetsTailAside, aside_of};
     ghost use Rattle.durable_store.specs.Durables.{IsBroken, Stands, entries_of};
     ghost use Rattle.serve_engine.specs.Keepings.{Kept};
     ghost use Rattle.store_keeper.specs.Keepers.{KeepsOn, disk_of, store_of};
@@ -56,6 +65,8 @@ impl<D: Disk + Drop> DiskKeeper<D> {
             → (committed received : List Entry) → Keeps (D.state sound.disk) committed received
             → Stands (store_of keeper) (D.state (disk_of keeper))
             (begun committed received (entries_of (store_of keeper)))) }
+        ensures aside { IfOk result (λ keeper. D.tells (disk_of keeper)
+            → SetsTailAside (D.state sound.disk) (D.state (disk_of keeper)) (aside_of (store_of keeper))) }
         ensures unbroken { IfOk result (λ keeper. ¬ (IsBroken (store_of keeper))) }
         ensures kept { IfErr result (λ r. D.tells r.1 → (committed received : List Entry)
             → Keeps (D.state sound.disk) committed received → Keeps (D.state r.1) committed received) }
@@ -65,6 +76,13 @@ impl<D: Disk + Drop> DiskKeeper<D> {
             Ok(store) => Ok(DiskKeeper { store, disk }),
             Err(fault) => Err((fault, disk.into_inner())),
         }
+    }
+
+    /// What was set aside when the store was opened, if anything was.
+    pub fn set_aside(&self) -> Option<SetAside>
+        ensures { result ≡ aside_of (store_of self.now) }
+    {
+        self.store.set_aside()
     }
 
     /// The disk. Whatever a crash leaves of it has all that is committed, and nothing that is not held.

@@ -24,7 +24,7 @@ use syslog_legacy::FrameReading;
 
 /// A server over a store, with room for so many connections, that reads frames so. It begins with what
 /// the store holds. The number of connections is from `CONNECTIONS_MAX` to `CONNECTIONS_LIMIT`; one
-/// outside is taken for the nearest of these.
+/// outside is taken for the nearest of these. The room of each connection grows with its frame.
 pub fn server_on<D: Disk + Drop, N: Output + Drop, R: Output + Drop>(
     alloc: Global,
     keeper: DiskKeeper<D>,
@@ -41,7 +41,7 @@ pub fn server_on<D: Disk + Drop, N: Output + Drop, R: Output + Drop>(
         ≡ max CONNECTIONS_MAX (min connections CONNECTIONS_LIMIT)) }
 {
     let set = PagedArchive::new(alloc);
-    let Ok(collector) = Collector::with_connections(alloc, set, reading, connections) else {
+    let Ok(collector) = Collector::with_growing_room(alloc, set, reading, connections) else {
         return Err(AllocError);
     };
     let server = Server::new(alloc, collector, keeper, notes, refused)?;

@@ -28,8 +28,9 @@ use Rattle.archive_streams.specs.declared.fault.SideFault.{SideFault}
 use Rattle.archive_streams.specs.declared.fault.SideFault.TheVariants.{Archive as side_Archive, Input as side_Input}
 use Rattle.archive_streams.proofs.Counting.{bad_count}
 use Rattle.archive_streams.proofs.EntrySteps.{begun}
-use Rattle.record_store.specs.Holdings.{IsOfPeriod, IsReadable, IsWholeJournal}
+use Rattle.record_store.specs.Holdings.{IsOfPeriod, IsReadable, IsSealedBatch, IsWholeJournal, SomeIsSealed}
 use Rattle.record_store.specs.Seals.{HasMore}
+use Rattle.record_store.proofs.Unsealed.{sealed_next}
 use Rattle.record_store.specs.declared.journal_damage.JournalDamage.TheVariants.{Archive as No_entry, Checksum, Hidden}
 use Rattle.record_store.specs.Segments.{IsArchiveOfDay}
 use Rattle.store_reading.specs.Damages.{IsBatchFileDamage, IsDamagedBatch, IsDamagedJournal, IsHiddenAt, IsOtherSeal}
@@ -221,7 +222,7 @@ module _ (old new : List Entry) (body rest : List ℕ) (offset : ℕ) (b : Batch
   seal_damaged (Input fault) over told = tt
   seal_damaged Memory over told = tt
 
-  pub seal_result : (r : Result (Unit {0}) CheckFault) → ¬ (HasMore rest)
+  pub seal_result : {T : Type 0} (r : Result T CheckFault) → ¬ (HasMore rest)
       → IfErr r (λ fault. (text : List ℕ) → body ≡ text ++ rest → Tells fault (IsOtherSeal text rest offset))
       → IfErr r (λ fault. Tells fault (IsDamagedBatch body offset))
   seal_result (Ok x) over told = tt
@@ -270,13 +271,42 @@ journal_damaged old new file rest body behind offset (Damaged fault) j (sized, i
     damage (Journal (No_entry f)) of =
         journal_fault file rest body behind offset (No_entry f) up_to sized is place small of
     damage (Journal (Checksum at)) of =
-        journal_fault file rest body behind offset (Checksum at) up_to sized is place small of
+        inl (journal_fault file rest body behind offset (Checksum at) up_to sized is place small of)
     damage (Journal (Hidden at)) of = absurd (of small_body)
     damage (Archive f) of = absurd (of small_body)
     damage (OtherDay at) of = absurd (of small_body)
     damage Digest of = absurd (of small_body)
 journal_damaged old new file rest body behind offset (Input fault) j first place small told = tt
 journal_damaged old new file rest body behind offset Memory j first place small told = tt
+
+-- a batch without its seal is behind one that has it
+pub unsealed_damaged : (old new : List Entry) (file rest body behind : List ℕ) (at : ℕ) (j : JournalAdded old new file rest)
+    → IsBody body × (rest ≡ open_batch body ++ behind) → SomeIsSealed j.bodies → IsReadable body
+    → ¬ (IsSealedBatch body) → at ≡ length file - length behind → IsDamagedJournal file (Journal (Checksum at))
+unsealed_damaged old new file rest body behind at j (sized, is) some plain unsealed place =
+    let parts = j.parts ∙ ap (λ (t : List ℕ). batches_text j.bodies ++ t) is
+    ∙ sym (append_assoc (batches_text j.bodies) (open_batch body) behind) in
+    record {
+      not_whole = λ w.
+          unsealed (sealed_next file j.bodies w.bodies body behind j.sized sized parts w.batches w.stay_sealed some);
+      told = inr (record {
+        bodies = j.bodies;
+        readable = j.readable;
+        body = body;
+        behind = behind;
+        fits = sized;
+        parts = parts;
+        before = some;
+        plain = plain;
+        unsealed = unsealed;
+        place = omega (
+          arith,
+          place,
+          ap length parts,
+          length-append (batches_text j.bodies ++ open_batch body) behind,
+        );
+      });
+    }
 
 -- batches are hidden
 pub hidden_damaged : (file : List ℕ) (at : ℕ) → IsHiddenAt file at

@@ -14,15 +14,17 @@ use Rattle.syslog_fields.specs.Canonical.{Canonical, HeaderForm, TimeForm, civil
 use Rattle.syslog_value.specs.Parts.{IsInstant, Parts}
 use Rattle.syslog_fields.specs.Time.{padded}
 use Rattle.archive_text.specs.Entries.{Entry, InstantBelow, IsBelow, IsEntry}
-use Rattle.archive_text.proofs.Orders.{octets_irreflexive, octets_total, octets_transitive}
+use Rattle.archive_text.proofs.Orders.{octets_total}
+use Rattle.syslog_value.proofs.Octets.{below_itself as octets_irreflexive, below_trans as octets_transitive}
 use Rattle.archive_sets.specs.Conditions.{IsInRange}
 use Rattle.archive_sets.specs.declared.range.InRange.{InRange}
 use Rattle.archive_digest.specs.Periods.{IsPeriodOf}
 use Rattle.archive_digest.specs.declared.period.Period.TheVariants.{Day}
-use Rattle.archive_digest.proofs.Civils.{key, key_rises, month_most}
+use Rattle.archive_digest.proofs.Civils.{key, key_rises}
 use Rattle.archive_digest.proofs.Names.{one_name}
 use Rattle.store_reading.specs.Days.{HasInstant, IsDayBelow, IsDayText, IsFrom, IsOf, IsUpTo}
 use Rattle.store_reading.specs.Ranges.{MayMeet}
+use Rattle.syslog_value.proofs.DayNumbers.{month_most}
 
 -- ---- the date of an instant
 

@@ -19,7 +19,7 @@ use Rattle.archive_text.proofs.FaultLaws.{fault_later}
 use Rattle.archive_text.proofs.Prefixes.{fault_excludes}
 use Rattle.archive_text.proofs.Members.{all_append}
 use Rattle.archive_text.proofs.Texts.{entry_carries, one_beginning, text_goes_on, text_some}
-use Rattle.record_store.specs.Holdings.{AreEntries, IsReadable, IsWholeJournal}
+use Rattle.record_store.specs.Holdings.{AreEntries, IsReadable, IsWholeJournal, StaySealed}
 use Rattle.record_store.specs.Seals.{HasMore, HidesBatches, Seals}
 use Rattle.record_store.proofs.Sealed.{begins_some, rest_of, rest_seals}
 use Rattle.record_store.specs.declared.journal_damage.JournalDamage.{JournalDamage}
@@ -135,12 +135,12 @@ journal_fault file rest body behind offset told c sized is place small fault =
 -- the first batch of a whole journal, and what is behind it
 pub whole_parts : (rest body behind : List ℕ) → IsBody body → rest ≡ open_batch body ++ behind → IsWholeJournal rest
     → IsReadable body × IsWholeJournal behind
-whole_parts rest body behind sized is w = of w.bodies w.batches w.readable w.nothing_hidden
+whole_parts rest body behind sized is w = of w.bodies w.batches w.readable w.stay_sealed w.nothing_hidden
   where
     of : (bodies : List (List ℕ)) (h : HasBatches rest bodies) → AllByRecursion IsReadable bodies
-        → ¬ (HidesBatches h.tail) → IsReadable body × IsWholeJournal behind
-    of [] h all none = absurd (h.closed body behind sized (sym h.text ∙ is))
-    of (b ∷ bodies) h all none =
+        → StaySealed bodies → ¬ (HidesBatches h.tail) → IsReadable body × IsWholeJournal behind
+    of [] h all stay none = absurd (h.closed body behind sized (sym h.text ∙ is))
+    of (b ∷ bodies) h all stay none =
         let same = same_batch body b behind (batches_text bodies ++ h.tail) sized h.sized.0
         (sym is ∙ h.text ∙ append_assoc (open_batch b) (batches_text bodies) h.tail) in (
           subst IsReadable (sym same.0) all.0,
@@ -148,6 +148,7 @@ whole_parts rest body behind sized is w = of w.bodies w.batches w.readable w.not
             bodies = bodies;
             batches = record { tail = h.tail; text = same.1; closed = h.closed; sized = h.sized.1 };
             readable = all.1;
+            stay_sealed = stay.1;
             nothing_hidden = none;
           },
         )

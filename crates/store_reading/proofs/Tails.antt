@@ -27,6 +27,7 @@ whole_of file r n = record {
   bodies = r.bodies;
   batches = r.batches;
   readable = r.readable;
+  stay_sealed = r.stay_sealed;
   nothing_hidden = λ h. n.hides_none
       (subst HidesBatches (same_tail file r.bodies n.bodies r.batches n.batches) h);
 }

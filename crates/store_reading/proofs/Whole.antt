@@ -1,7 +1,7 @@
 -- What was read is whole.
 use Rattle.std.proofs.Common.{◌≡◌, ◌⊎◌, ℕ, List, [], ◌∷◌, ◌++◌, Option, None, Some, inl, inr, refl, sym, ap, subst, ◌∙◌}
 use Rattle.std.proofs.Common.{append-nil}
-use Rattle.std.specs.Prelude.{Contains, Err, IfOk, IfSome, IsSome, IsSomeAnd, Ok, OnOk, Result, codes}
+use Rattle.std.specs.Prelude.{Contains, Err, IfOk, IfSome, IsSome, IsSomeAnd, Ok, OnOk, Result, codes, Bool, IsTrue, ◌↔◌}
 use Rattle.std.proofs.lemmas.List.Elements.{Contains-push_cases}
 use Rattle.disk.specs.States.{Files}
 use Rattle.octet_devices.specs.Device.{InputState}
@@ -36,6 +36,13 @@ pub if_ok_more : {T E : Type 0} (r : Result T E) (P Q : T → Type 0) → ((x : 
 if_ok_more (Ok x) P Q from p = from x p
 if_ok_more (Err e) P Q from p = tt
 
+-- whether a batch has its seal is told where something is left of it
+pub sealed_more : {E : Type 0} (r : Result Bool E) (A B C : Type 0) → (A → C ↔ B) → OnOk r A
+    → IfOk r (λ sealed. IsTrue sealed ↔ B) → IfOk r (λ sealed. IsTrue sealed ↔ C)
+sealed_more (Ok sealed) A B C from a tells =
+    let both = from a in (λ on. both.1 (tells.0 on), λ c. tells.1 (both.0 c))
+sealed_more (Err e) A B C from a tells = tt
+
 -- ---- a journal
 
 pub journal_read : (old new : List Entry) (file rest : List ℕ) → JournalAdded old new file rest → IsClosed rest
@@ -44,6 +51,7 @@ journal_read old new file rest j closed = record {
   bodies = j.bodies;
   batches = record { tail = rest; text = j.parts; closed = closed; sized = j.sized };
   readable = j.readable;
+  stay_sealed = j.stay;
 }
 
 -- what is so of each file that was read is so of the one under a name

@@ -1,5 +1,5 @@
 -- What is wrong with the octets of files.
-use Rattle.std.specs.Prelude.{◌≡◌, ◌≢◌, ℕ, ◌+◌, ◌-◌, ◌<◌, ◌^◌, min, List, [], ◌∷◌, ◌++◌, Some, length}
+use Rattle.std.specs.Prelude.{◌≡◌, ◌≢◌, ◌⊎◌, ℕ, ◌+◌, ◌-◌, ◌<◌, ◌^◌, min, List, [], ◌∷◌, ◌++◌, Some, length}
 use Rattle.std.specs.List.{AllByRecursion}
 use Rattle.octet_devices.specs.Device.{InputState}
 use Rattle.archive_text.specs.Entries.{Entry}
@@ -9,7 +9,8 @@ use Rattle.archive_text.specs.Text.{text_of}
 use Rattle.archive_text.specs.declared.fault.ArchiveFault.{ArchiveFault}
 use Rattle.archive_text.specs.declared.limits.TheConstants.{ENTRY_MAX}
 use Rattle.journal.specs.Batches.{HasBatches, IsBody, batches_text, open_batch}
-use Rattle.record_store.specs.Holdings.{AreEntries, IsOfPeriod, IsReadable, IsWholeJournal}
+use Rattle.record_store.specs.Holdings.{AreEntries, IsOfPeriod, IsReadable, IsSealedBatch, IsWholeJournal, SomeIsSealed}
+use Rattle.record_store.specs.Holdings.{StaySealed}
 use Rattle.record_store.specs.Seals.{HasMore, HidesBatches, Seals}
 use Rattle.record_store.specs.declared.journal_damage.JournalDamage.{JournalDamage}
 use Rattle.record_store.specs.declared.journal_damage.JournalDamage.TheVariants.{Archive as No_entry, Checksum, Hidden}
@@ -142,16 +143,31 @@ pub record HidesNothing (file : List ℕ) : Type 0 where
   pub batches : HasBatches file bodies
   pub hides_none : ¬ (HidesBatches batches.tail)
 
--- each batch of a journal is one of entries
+-- each batch of a journal is one of entries, and those behind a sealed one are sealed
 pub record AreReadable (file : List ℕ) : Type 0 where
   pub bodies : List (List ℕ)
   pub batches : HasBatches file bodies
   pub readable : AllByRecursion IsReadable bodies
+  pub stay_sealed : StaySealed bodies
+
+-- a batch of a journal is one of entries without a seal, where one has to be, since one before has its own: told where
+-- the batch ends
+pub record IsUnsealedAt (file : List ℕ) (at : ℕ) : Type 0 where
+  pub bodies : List (List ℕ)
+  pub readable : AllByRecursion IsReadable bodies
+  pub body : List ℕ
+  pub behind : List ℕ
+  pub fits : IsBody body
+  pub parts : file ≡ batches_text bodies ++ open_batch body ++ behind
+  pub before : SomeIsSealed bodies
+  pub plain : IsReadable body
+  pub unsealed : ¬ (IsSealedBatch body)
+  pub place : at + length behind ≡ length file
 
 -- so a journal can be damaged
 abbrev pub IsDamageIn : List ℕ → JournalDamage → Type 0
 IsDamageIn file (No_entry fault) = IsJournalFault file (No_entry fault)
-IsDamageIn file (Checksum at) = IsJournalFault file (Checksum at)
+IsDamageIn file (Checksum at) = IsJournalFault file (Checksum at) ⊎ IsUnsealedAt file at
 IsDamageIn file (Hidden at) = IsHiddenAt file at
 
 abbrev pub IsJournalDamage : List ℕ → FileFault → Type 0

@@ -1,8 +1,8 @@
 //! The entries of journals.
-ghost use Rattle.std.specs.Prelude.{◌≡◌, ◌≤◌, ◌++◌, IfErr, IfOk, List, ℕ, OnOk, length};
+ghost use Rattle.std.specs.Prelude.{◌≡◌, ◌≢◌, ◌≤◌, ◌↔◌, ◌++◌, [], IfErr, IfOk, IsTrue, List, ℕ, OnOk, length};
 ghost use Rattle.archive_text.specs.Entries.{IsEntry};
 ghost use Rattle.archive_text.specs.EntryViews.{entry_of};
-ghost use Rattle.record_store.specs.Holdings.{BatchHas, IsReadable, IsWholeJournal, JournalHas};
+ghost use Rattle.record_store.specs.Holdings.{BatchHas, IsReadable, IsSealedBatch, IsWholeJournal, JournalHas};
 ghost use Rattle.record_store.specs.Names.{IsJournal};
 ghost use Rattle.record_store.specs.Seals.{Seals};
 ghost use Rattle.store_reading.specs.Causes.{IsCause, file_causes};
@@ -69,31 +69,34 @@ fn add_first<'a>(
     }
 }
 
-// Whether the rest of a batch is the seal of the text before it, or nothing. The batch begins at an offset
-// of its journal.
-fn check_seal(body: &[u8], rest: &[u8], offset: u64) -> Result<(), CheckFault>
+// Whether the rest of a batch is the seal of the text before it, or nothing; and which of them. The batch
+// begins at an offset of its journal.
+fn check_seal(body: &[u8], rest: &[u8], offset: u64) -> Result<bool, CheckFault>
     ensures sealed { OnOk result ((text : List ℕ) → body.now ≡ text ++ rest.now
         → Seals text rest.now) }
+    ensures some { IfOk result (λ some. IsTrue some ↔ (rest.now ≢ [])) }
     ensures damaged { IfErr result (λ fault. (text : List ℕ) → body.now ≡ text ++ rest.now
         → Tells fault (IsOtherSeal text rest.now offset)) }
 {
     let (text, behind) = body.split_at(body.len().saturating_sub(rest.len()));
     if seals(text, behind) {
-        return Ok(());
+        return Ok(!rest.is_empty());
     }
     let at = offset.saturating_add(text.len() as u64);
     Err(CheckFault::Damaged(FileFault::Journal(JournalDamage::Checksum { at })))
 }
 
-// Adds the entries of a batch, which begins at an offset of its journal.
+// Adds the entries of a batch, which begins at an offset of its journal, and gives whether it has its
+// seal.
 fn add_batch(
     alloc: Global,
     set: &mut PagedArchive,
     body: &[u8],
     offset: u64,
-) -> Result<(), CheckFault>
+) -> Result<bool, CheckFault>
     ensures adds { OnOk result (Adds (set_entries set.old) (set_entries set.new) (BatchHas body.now)) }
     ensures whole { OnOk result (IsReadable body.now) }
+    ensures sealed { IfOk result (λ sealed. IsTrue sealed ↔ IsSealedBatch body.now) }
     ensures damaged { IfErr result (λ fault. Tells fault (IsDamagedBatch body.now offset)) }
 {
     let mut rest = body;
@@ -111,9 +114,15 @@ fn add_batches(alloc: Global, set: &mut PagedArchive, file: &[u8]) -> Result<(),
     ensures damaged { IfErr result (λ fault. Tells fault (IsDamagedJournal file.now)) }
 {
     let mut rest = file;
+    let mut has_seals = false;
     'batches: while let Some((body, behind)) = first_batch(rest) {
         let end = (file.len() as u64).saturating_sub(behind.len() as u64);
-        add_batch(alloc, set, body, end.saturating_sub(body.len() as u64))?;
+        let sealed = add_batch(alloc, set, body, end.saturating_sub(body.len() as u64))?;
+        if has_seals && !sealed {
+            let fault = JournalDamage::Checksum { at: end };
+            return Err(CheckFault::Damaged(FileFault::Journal(fault)));
+        }
+        has_seals = sealed;
         rest = behind;
     }
     Ok(())
@@ -137,7 +146,8 @@ fn add_read(alloc: Global, set: &mut PagedArchive, journal: &JournalFile) -> Res
 }
 
 /// Whether a journal that was read is whole: each of its batches is a sequence of entries and their seal,
-/// or entries alone, as older programs wrote it, and behind them nothing hides others.
+/// or entries alone, as older programs wrote it, before all that have a seal; and behind them nothing
+/// hides others.
 ///
 /// # Errors
 /// The first fault, and where it is; or lack of memory.

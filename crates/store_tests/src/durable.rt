@@ -1,6 +1,6 @@
 use archive_text::{AddFault, Added, Store};
 use disk::{Disk, FileName, Fuse, MemoryDisk};
-use durable_store::{DurableStore, OpenFault};
+use durable_store::{DurableStore, OpenFault, SetAside};
 use octet_devices::ToWrite;
 use record_store::{JournalDamage, StoreFault};
 use std::alloc::Global;
@@ -48,7 +48,8 @@ fn text(alloc: Global, store: &DurableStore) -> Result<Vec<u8>, Fail> {
 fn all_files(alloc: Global, disk: &mut MemoryDisk) -> Result<Vec<u8>, Fail> {
     let mut all = Vec::new(alloc);
     for name in disk.names(alloc)? {
-        if name.as_octets() != b"new.archive".as_slice() {
+        let octets = name.as_octets();
+        if octets != b"new.archive".as_slice() && !octets.starts_with(b"damaged.") {
             let mut piece = [0u8; 4096];
             let n = disk.read(&name, 0, &mut piece)?;
             if n <= piece.len() {
@@ -212,12 +213,17 @@ fn a_second_crash_may_come_in_the_recovery(rt: HostRuntime) -> Result<(), Fail> 
     Ok(())
 }
 
-// the file of the first journal
-fn journal(alloc: Global, disk: &mut MemoryDisk) -> Result<Vec<u8>, Fail> {
-    let name = FileName::new(alloc, b"journal.1")?.ok_or("no name")?;
-    let mut piece = [0u8; 256];
+// a small file
+fn octets_of(alloc: Global, disk: &mut MemoryDisk, name: &[u8]) -> Result<Vec<u8>, Fail> {
+    let name = FileName::new(alloc, name)?.ok_or("no name")?;
+    let mut piece = [0u8; 1024];
     let n = disk.read(&name, 0, &mut piece)?;
     Ok(piece.get(..n).ok_or("too long")?.to_vec(alloc)?)
+}
+
+// the file of the first journal
+fn journal(alloc: Global, disk: &mut MemoryDisk) -> Result<Vec<u8>, Fail> {
+    octets_of(alloc, disk, b"journal.1")
 }
 
 // a folder with this journal
@@ -262,6 +268,87 @@ fn an_older_journal_goes_on(rt: HostRuntime) -> Result<(), Fail> {
     let again = DurableStore::open(alloc, &mut disk)?;
     assert!(rt; text(alloc, &again)? == text(alloc, &store)?);
     assert_eq!(rt; again.len(), 2);
+    Ok(())
+}
+
+// octets of the first journal
+fn of_first(octets: u64) -> Option<SetAside> {
+    Some(SetAside { number: 1, octets })
+}
+
+// What is behind the batches is set aside before it is cut off, behind what was set aside before.
+#[test]
+fn what_is_cut_off_is_set_aside(rt: HostRuntime) -> Result<(), Fail> {
+    let alloc = rt.alloc();
+    let torn = b"\x01\x13\0\0\016 <0>1 - - - - - -\0\x05\0\0\0torn";
+    let mut disk = with_journal(alloc, torn)?;
+    let store = DurableStore::open(alloc, &mut disk)?;
+    assert!(rt; store.set_aside() == of_first(9));
+    let tail: &[u8] = &torn[24..];
+    assert!(rt; octets_of(alloc, &mut disk, b"damaged.journal.1")?.as_slice() == tail);
+    let again = DurableStore::open(alloc, &mut disk)?;
+    assert!(rt; again.set_aside().is_none());
+    let name = FileName::new(alloc, b"journal.1")?.ok_or("no name")?;
+    disk.append(&name, b"zero")?;
+    let later = DurableStore::open(alloc, &mut disk)?;
+    assert!(rt; later.set_aside() == of_first(5));
+    assert_eq!(rt; later.len(), 1);
+    let aside = octets_of(alloc, &mut disk, b"damaged.journal.1")?;
+    let mut all = tail.to_vec(alloc)?;
+    all.extend_from_slice(b"\xfezero")?;
+    assert!(rt; aside == all);
+    Ok(())
+}
+
+// A journal whose first octets are lost reads as one without batches: all of it is set aside, and so it is
+// wherever an opening stops.
+#[test]
+fn a_journal_that_reads_as_empty_is_set_aside(rt: HostRuntime) -> Result<(), Fail> {
+    let alloc = rt.alloc();
+    let (mut disk, mut store) = begun(alloc)?;
+    store.commit(alloc, &mut disk)?;
+    let mut octets = journal(alloc, &mut disk)?;
+    let front = octets.len().min(16);
+    octets[..front].fill(0);
+    for calls in 0..16 {
+        let mut fuse = Fuse::new(with_journal(alloc, &octets)?, calls);
+        let _opened = DurableStore::open(alloc, &mut fuse);
+        let mut disk = fuse.into_inner();
+        if journal(alloc, &mut disk)? == octets {
+            let opened = DurableStore::open(alloc, &mut disk)?;
+            assert!(rt;
+                opened.set_aside() == of_first(octets.len() as u64),
+                "at {calls}"
+            );
+            assert_eq!(rt; opened.len(), 0);
+        }
+        let aside = octets_of(alloc, &mut disk, b"damaged.journal.1")?;
+        assert!(rt; aside.ends_with(&octets), "at {calls}");
+    }
+    Ok(())
+}
+
+// Once a batch has its seal, one without a seal is damage.
+#[test]
+fn a_batch_without_a_seal_behind_a_sealed_one_is_damage(rt: HostRuntime) -> Result<(), Fail> {
+    let alloc = rt.alloc();
+    let (mut disk, mut store) = begun(alloc)?;
+    store.commit(alloc, &mut disk)?;
+    let whole = journal(alloc, &mut disk)?;
+    let plain = b"\x01\x13\0\0\016 <0>1 - - - - - -";
+    let mut behind = whole[..whole.len().saturating_sub(1)].to_vec(alloc)?;
+    behind.extend_from_slice(plain)?;
+    let at = behind.len() as u64;
+    behind.push(254)?;
+    let mut disk = with_journal(alloc, &behind)?;
+    let fault = JournalDamage::Checksum { at };
+    let told = DurableStore::open(alloc, &mut disk).err();
+    assert!(rt; told == Some(OpenFault::Damaged { number: 1, fault }));
+    assert!(rt; journal(alloc, &mut disk)? == behind);
+    let mut before = plain.to_vec(alloc)?;
+    before.extend_from_slice(&whole)?;
+    let opened = DurableStore::open(alloc, &mut with_journal(alloc, &before)?)?;
+    assert_eq!(rt; opened.len(), 3);
     Ok(())
 }
 

@@ -380,6 +380,13 @@ fn damage_of_a_journal_is_told_where_it_is(rt: HostRuntime) -> Result<(), Fail> 
         }
         assert!(rt; told(alloc, &octets)? == Some(right), "{at}");
     }
+    let plain = joined(alloc, &[&[1, 22, 0, 0, 0], A])?;
+    let mut behind = sealed(alloc)?;
+    behind.pop();
+    behind.extend_from_slice(&plain)?;
+    let at = behind.len() as u64;
+    assert!(rt; told(alloc, &behind)? == Some(JournalDamage::Checksum { at }));
+    assert!(rt; told(alloc, &joined(alloc, &[&plain, &sealed(alloc)?])?)?.is_none());
     let mut closed = sealed(alloc)?;
     if !closed.is_empty() {
         closed[0] = 254;

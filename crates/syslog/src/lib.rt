@@ -22,8 +22,8 @@ pub use commands::{Files, MemoryFile, MemoryFiles, run};
 
 // archives
 pub use syslog_archive::{
-    AddFault, Added, ArchiveEntries, ArchiveFault, AsSevereAs, AskedWord, Both, Condition,
-    Conditions, ENTRIES_READ_MAX, ENTRY_MAX, EntriesFault, EntryFault, EntryView, HasElement,
+    AddFault, Added, ArchiveEntries, ArchiveFault, AsSevereAs, Both, Condition, Conditions,
+    ENTRIES_READ_MAX, ENTRY_MAX, EntriesFault, EntryFault, EntryView, FieldTest, HasElement,
     HasWord, InRange, InputFault, MergeFault, OfFacility, OnlyUndated, PagedArchive, ReadFault,
     SelectFault, Side, Store, Times, VecArchive, WordField, entry_order_is_total, merge,
     merge_streams, merging_is_associative, merging_is_commutative, merging_is_idempotent,

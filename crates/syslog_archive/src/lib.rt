@@ -25,7 +25,7 @@ pub use archive_laws::{
 pub use archive_migration::{migrate, migrate_into};
 pub use archive_pages::PagedArchive;
 pub use archive_sets::{
-    AsSevereAs, AskedWord, Both, Condition, Conditions, HasElement, HasWord, InRange, OfFacility,
+    AsSevereAs, Both, Condition, Conditions, FieldTest, HasElement, HasWord, InRange, OfFacility,
     OnlyUndated, SelectFault, Times, WordField, select_stream,
     selecting_by_both_is_selecting_by_each, selecting_distributes_over_union,
     selecting_is_idempotent, selections_are_archives, selections_of_one_text_begin_alike,

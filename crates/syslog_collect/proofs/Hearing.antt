@@ -1,10 +1,11 @@
 -- What an observer is told of the frames of a connection.
-use Rattle.std.proofs.Common.{◌≡◌, ◌≤◌, ◌<◌, ℕ, List, [], ◌∷◌, ◌++◌, length, take, inl, inr, refl, sym, ◌∙◌}
+use Rattle.std.proofs.Common.{◌≡◌, ◌+◌, ◌≤◌, ◌<◌, ℕ, List, [], ◌∷◌, ◌++◌, length, take, inl, inr, refl, sym, ◌∙◌}
 use Rattle.std.proofs.Common.{ap, subst, append_assoc}
 use Rattle.std.specs.Prelude.{◌⊎◌, Option, Some, None, Err}
 use Rattle.std.proofs.lemmas.Bool.Decides.{eqb_tells}
 use Rattle.std.proofs.lemmas.List.{append-nil}
-use Rattle.syslog_frame.specs.Scan.{Scan, HasFrame}
+use Rattle.syslog_frame.specs.Scan.{Scan, HasFrame, IsReading}
+use Rattle.syslog_frame.specs.declared.limits.TheConstants.{POSITION_MAX}
 use Rattle.archive_text.specs.Entries.{Entry}
 use Rattle.syslog_legacy.specs.declared.frame_reading.FrameReading.{FrameReading}
 use Rattle.syslog_collect.specs.declared.connection.Connection.{Connection}
@@ -27,7 +28,8 @@ use Rattle.syslog_collect.specs.Outcomes.{HandlesReady, IsOutcome, outcomes_of}
 use Rattle.syslog_collect.specs.Runs.{used_before}
 use Rattle.syslog_collect.specs.Standing.{IsAt, Stands}
 use Rattle.syslog_collect.proofs.Found.{found_in, waits_become}
-use Rattle.syslog_collect.proofs.Moving.{IsPushed, IsReleased, advanced, open_unless_failed, waiting as moved_waiting}
+use Rattle.syslog_collect.proofs.Moving.{IsPushed, IsReleased, advanced, moved_none, open_unless_failed}
+use Rattle.syslog_collect.proofs.Moving.{waiting as moved_waiting}
 use Rattle.syslog_collect.proofs.Ordered.{in_order}
 use Rattle.syslog_collect.proofs.Pieces.{accepted_used, accepted_whole, with_octets_twice}
 use Rattle.syslog_collect.proofs.Places.{found_here, opening_at}
@@ -135,6 +137,15 @@ pub hears_waiting : {O : Type 0} (t : O → Outcome → Option (List ℕ) → O 
     → IsAt old s handled → Hears t new (take n piece) [] s handled x y
 hears_waiting t way old new a b piece n s handled x y number p frame kept silent at =
     let moves = moved_waiting way old new a b piece n s handled number p frame kept at in
+    (moves.fresh, moves.now_at, (moves.reported.0, silent))
+
+-- nothing was taken, as room was refused
+pub hears_no_room : {O : Type 0} (t : O → Outcome → Option (List ℕ) → O → Type 0) (way : FrameReading)
+    (old new : Connection) (a b : List Entry) (piece : List ℕ) (s : Stream) (handled : List (List ℕ)) (x y : O)
+    → new ≡ old → IsReading old.scanner → old.scanner.position + length piece ≤ POSITION_MAX → b ≡ a → y ≡ x
+    → IsAt old s handled → Hears t new (take 0 piece) [] s handled x y
+hears_no_room t way old new a b piece s handled x y same reading fits kept silent at =
+    let moves = moved_none way old new a b piece s handled same reading fits kept at in
     (moves.fresh, moves.now_at, (moves.reported.0, silent))
 
 -- ---- octets, one after the other

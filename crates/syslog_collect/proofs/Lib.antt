@@ -19,3 +19,4 @@ pub mod Stopping
 pub mod Numbering
 pub mod Found
 pub mod Hearing
+pub mod Rooms

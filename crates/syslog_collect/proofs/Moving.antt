@@ -7,8 +7,8 @@ use Rattle.octet_language.specs.Language.{Begins}
 use Rattle.syslog_frame.specs.Frames.{Frame, Frames, IsBadAt, Whole, framed}
 use Rattle.syslog_frame.specs.Reads.{Reads, ReadsOn}
 use Rattle.syslog_frame.specs.Scan.{Scan, HasBadCount, HasFrame, HasReady, IsFailed, IsReading, Stands}
-use Rattle.syslog_frame.specs.declared.fault.ScanFault.{ScanFault}
-use Rattle.syslog_frame.specs.declared.fault.ScanFault.TheVariants.{Failed as fault_Failed, StreamTooLong}
+use Rattle.syslog_frame.specs.declared.fault.GrowFault.{GrowFault}
+use Rattle.syslog_frame.specs.declared.fault.GrowFault.TheVariants.{Failed as fault_Failed, StreamTooLong}
 use Rattle.syslog_frame.specs.Takes.{Takes}
 use Rattle.syslog_frame.specs.declared.framing.Framing.{Framing}
 use Rattle.syslog_frame.specs.declared.framing.Framing.TheVariants.{Counted, Lf}
@@ -119,10 +119,10 @@ bad_within kind p piece n s bad takes = elim takes [
 
 -- a push that took octets, by its clauses
 pub pushed : (old new : Scan) (piece : List ℕ) (n : ℕ)
-    → ◌≡◌ {A = Result ℕ ScanFault} (Ok n) (Err fault_Failed) ↔ IsFailed old
-    → ◌≡◌ {A = Result ℕ ScanFault} (Ok n) (Err StreamTooLong)
+    → ◌≡◌ {A = Result ℕ GrowFault} (Ok n) (Err fault_Failed) ↔ IsFailed old
+    → ◌≡◌ {A = Result ℕ GrowFault} (Ok n) (Err StreamTooLong)
     ↔ (IsReading old × (POSITION_MAX < old.position + length piece))
-    → (HasReady old → ◌≡◌ {A = Result ℕ ScanFault} (Ok n) (Ok 0) × (new ≡ old))
+    → (HasReady old → ◌≡◌ {A = Result ℕ GrowFault} (Ok n) (Ok 0) × (new ≡ old))
     → n ≤ length piece → new.position ≡ old.position + n → new.position ≤ POSITION_MAX
     → ((kind : Framing) (first : ℕ) (octets : List ℕ) (frames : List (List ℕ)) (rest : List ℕ)
     → Reads FRAME_MAX old kind first octets frames rest → ¬ (HasBadCount old)
@@ -278,6 +278,32 @@ module _ (way : FrameReading) (old new : Connection) (kept_old kept_new : List E
           refl,
         );
       }
+
+-- nothing is taken of a piece, where room was refused
+none_pushed : (scanner : Scan) (piece : List ℕ) → IsReading scanner → scanner.position + length piece ≤ POSITION_MAX
+    → IsPushed scanner scanner piece 0
+none_pushed scanner piece reading fits = record {
+  live = reading.1;
+  within = omega arith;
+  position = omega arith;
+  bound = omega (arith, fits);
+  room = λ h. omega (arith, fits, h.1);
+  waits = λ h. refl;
+  reads = λ kind first octets frames rest r good. record {
+    reads = simp append-nil r;
+    bad = λ bad. absurd (reading.0 (inr bad));
+  };
+  takes = λ bad. absurd (reading.0 (inr bad));
+}
+
+pub moved_none : (way : FrameReading) (old new : Connection) (kept_old kept_new : List Entry) (piece : List ℕ) (s : Stream)
+    (handled : List (List ℕ)) → new ≡ old → IsReading old.scanner → old.scanner.position + length piece ≤ POSITION_MAX
+    → kept_new ≡ kept_old → IsAt old s handled → Advances way old new kept_old kept_new (take 0 piece) [] s handled
+moved_none way old new kept_old kept_new piece s handled same reading fits kept at =
+    subst (λ (z : Connection). Advances way old z kept_old kept_new (take 0 piece) [] s handled) (sym same)
+    (takes_octets way old old kept_old kept_new s handled piece 0 at.number
+    (open_unless_failed old s handled reading.1 at) (none_pushed old.scanner piece reading fits)
+    (λ bad. reading.0 (inr bad)) kept)
 
 -- what is ready after a push was handled and released
 pub advanced : (way : FrameReading) (old new : Connection) (mid : Scan) (kept_old kept_new : List Entry)

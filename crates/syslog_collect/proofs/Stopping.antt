@@ -5,6 +5,7 @@ use denote.Bor.{Bor}
 use Rattle.std.specs.Prelude.{◌⊎◌, Option, Some, None, Result, Ok, Err}
 use Rattle.std.proofs.lemmas.List.{length-append, length-drop, length-take}
 use Rattle.syslog_frame.specs.Frames.{Frames}
+use Rattle.syslog_frame.specs.Scan.{HasFrame}
 use Rattle.syslog_frame.specs.declared.framing.Framing.{Framing}
 use Rattle.syslog_frame.specs.declared.phase.Phase.{Phase}
 use Rattle.syslog_frame.specs.declared.phase.Phase.TheVariants.{Ended as phase_Ended}
@@ -27,7 +28,7 @@ use Rattle.syslog_collect.specs.declared.outcome.Outcome.TheVariants.{New, Held,
 use Rattle.syslog_collect.specs.declared.outcome.Outcome.TheVariants.{BadCount}
 use Rattle.syslog_collect.specs.Answers.{Advances, ComesInTurn, EndsFrameOf, IfMemory, IfRefused, IfUnreleased}
 use Rattle.syslog_collect.specs.Answers.{IsBadCount, IsCause, IsEnding, IsOpening, IsTaken, IsWholeWith, ReportsBadCount}
-use Rattle.syslog_collect.specs.Answers.{accepted_count}
+use Rattle.syslog_collect.specs.Answers.{WantsRoom, accepted_count}
 use Rattle.syslog_collect.specs.History.{AcceptedEvent, History, HoldsBadCount, Stream, accept, history_after}
 use Rattle.syslog_collect.specs.History.{history_of, stream_of, with_octets}
 use Rattle.syslog_collect.specs.Logs.{ready_count}
@@ -70,6 +71,33 @@ step_cause way rest used x y was now AlreadyOpen s is le cause frame same taken 
 step_cause way rest used x y was now TooManyOpen s is le cause frame same taken = absurd cause
 step_cause way rest used x y was now Unreleased s is le cause frame same taken = absurd cause
 step_cause way rest used x y was now (Unterminated start) s is le cause frame same taken = absurd cause
+
+-- one for which there was no room
+pub step_no_room : (way : FrameReading) (rest : List ℕ) (used : ℕ) (x y : Connection) (fault : CollectFault) (s : Stream)
+    → used ≡ used_before fault → WantsRoom x y (Err fault)
+    → StopsStep way rest used (ready_count x.scanner.phase) (ready_count y.scanner.phase) fault s
+step_no_room way rest used x y fault s is room =
+    let e = same_fault fault (Memory 0) room.fault_is in
+    inl (e, is ∙ ap used_before e, ap (λ (c : Connection). ready_count c.scanner.phase) room.same)
+  where
+    same_fault : (a b : CollectFault) → ◌≡◌ {A = Result Advance CollectFault} (Err a) (Err b) → a ≡ b
+    same_fault a b e = cc
+
+-- where a frame is ready for which memory was refused, it is not room that was
+pub unless_room : {P : Type 0} (x y : Connection) (r : Result Advance CollectFault) → IfMemory r (HasFrame y.scanner)
+    → WantsRoom x y r ⊎ P → P
+unless_room x y r waits (inr p) = p
+unless_room x y r waits (inl room) =
+    let frame = subst (λ (q : Result Advance CollectFault). IfMemory q (HasFrame y.scanner)) room.fault_is waits in
+    absurd (room.reading.0 (inl (subst (λ (c : Connection). HasFrame c.scanner) room.same frame)))
+
+-- octets were taken, so that there was room
+pub taken_with_room : {P : Type 0} (x y : Connection) (a : Advance) → WantsRoom x y (Ok a) ⊎ P → P
+taken_with_room x y a (inr p) = p
+taken_with_room x y a (inl room) = absurd (differ a (Memory 0) room.fault_is)
+  where
+    differ : (a : Advance) (f : CollectFault) → ◌≡◌ {A = Result Advance CollectFault} (Ok a) (Err f) → ⊥
+    differ a f e = cc
 
 unmarked : (o : Option Outcome) (t : Stream) → ¬ (IsBadCount o) → ReportsBadCount (outcomes_of o) t
     → ¬ (HoldsBadCount t)

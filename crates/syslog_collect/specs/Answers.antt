@@ -1,7 +1,8 @@
 -- What the collector's calls accept, by their answers.
-use Rattle.std.specs.Prelude.{◌≡◌, ◌⊎◌, ℕ, ◌+◌, ◌<◌, ◌≤◌, List, [], ◌∷◌, ◌++◌, length, min, take}
+use Rattle.std.specs.Prelude.{◌≡◌, ◌⊎◌, ℕ, ◌+◌, ◌<◌, ◌≤◌, false, List, [], ◌∷◌, ◌++◌, length, min, take}
 use Rattle.std.specs.Prelude.{Option, Some, None, Result, Ok, Err, IsSome, IsSomeAnd}
 use Rattle.syslog_frame.specs.Frames.{Frames, IsBadAt, framed}
+use Rattle.syslog_frame.specs.Scan.{IsReading}
 use Rattle.syslog_frame.specs.declared.framing.Framing.{Framing}
 use Rattle.syslog_frame.specs.declared.limits.TheConstants.{POSITION_MAX}
 use Rattle.archive_text.specs.Entries.{Entry}
@@ -159,6 +160,14 @@ StopsRight piece n (Some (BadCount at)) s = at ≡ length s.octets + n
 abbrev pub EndsFrameOf : List ℕ → ℕ → Stream → Type 0
 EndsFrameOf o n s = (frames : List (List ℕ)) × (f : List ℕ)
     × Frames s.framing (s.octets ++ o) (frames ++ f ∷ []) [] × (n ≡ min (length o) (length (framed s.framing f)))
+
+-- room for octets of a frame was refused to a connection that had reserved none: nothing was taken, and nothing has
+-- changed
+pub record WantsRoom (old new : Connection) (result : Result Advance CollectFault) : Type 0 where
+  pub fault_is : result ≡ Err (Memory 0)
+  pub same : new ≡ old
+  pub reading : IsReading old.scanner
+  pub grows : old.scanner.reserved ≡ false
 
 -- how much of a piece an advance takes at an opening where so many frames wait; where memory is refused, a frame waited
 -- or an octet was taken

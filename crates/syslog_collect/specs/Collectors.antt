@@ -1,12 +1,14 @@
 -- What public calls say of a collector: where it stands, and which of its frames wait.
-use Rattle.std.specs.Prelude.{◌≡◌, ◌≤◌, ◌↔◌, ℕ, List, ◌++◌}
+use Rattle.std.specs.Prelude.{◌≡◌, ◌≤◌, ◌↔◌, ℕ, Bool, false, true, List, ◌++◌, Result, Err}
 use Rattle.archive_text.specs.Entries.{Entry, Has}
 use Rattle.syslog_legacy.specs.declared.frame_reading.FrameReading.{FrameReading}
 use Rattle.syslog_collect.specs.declared.collector.Collector.{Collector}
+use Rattle.syslog_collect.specs.declared.fault.CollectFault.{CollectFault}
+use Rattle.syslog_collect.specs.declared.fault.CollectFault.TheVariants.{Memory}
 use Rattle.syslog_collect.specs.Headline.{IsSettled}
 use Rattle.syslog_collect.specs.History.{AcceptedEvent}
 use Rattle.syslog_collect.specs.Logs.{waiting}
-use Rattle.syslog_collect.specs.Numbers.{KeepsAll}
+use Rattle.syslog_collect.specs.Numbers.{AllReserved, KeepsAll, connection_in, has_reserved}
 use Rattle.syslog_collect.specs.Standing.{Stands as StandsWith}
 
 -- its store
@@ -28,6 +30,14 @@ room_of c = c.connections.slots.capacity
 -- how many it may have open at a time
 abbrev pub limit_of : {S : Type 0} → Collector S → ℕ
 limit_of c = c.connections.limit
+
+-- its connections reserve the room for a whole record as they are opened
+abbrev pub reserves_of : {S : Type 0} → Collector S → Bool
+reserves_of c = c.reserves
+
+-- each of its connections has reserved that room
+abbrev pub HasAllRoom : {S : Type 0} → Collector S → Type 0
+HasAllRoom c = AllReserved c.connections
 
 -- how many frames of each number wait, since memory was refused for them: none or one
 abbrev pub waits_of : {S : Type 0} → Collector S → ℕ → ℕ
@@ -57,12 +67,21 @@ behind past entries store = past ++ entries store
 abbrev pub HaveSameEntries : List Entry → List Entry → Type 0
 HaveSameEntries one two = (x : Entry) → Has one x ↔ Has two x
 
--- wherever it stood, whatever is kept elsewhere, it stands there with these events more; how it reads frames, its limit
--- and its room are kept
+-- wherever it stood, whatever is kept elsewhere, it stands there with these events more; how it reads frames, its limit,
+-- its room and whether its connections reserve theirs are kept
 pub record GoesOn {S : Type 0} (entries : S → List Entry) (old new : Collector S) (accepted : List AcceptedEvent) : Type
     0 where
   pub stands : (past first : List Entry) (events : List AcceptedEvent) → Stands (behind past entries) old first events →
       Stands (behind past entries) new first (events ++ accepted)
   pub reading : reading_of new ≡ reading_of old
   pub limit : limit_of new ≡ limit_of old
+  pub reserves : reserves_of new ≡ reserves_of old
+  pub whole : reserves_of old ≡ true → HasAllRoom old → HasAllRoom new
   pub room : room_of old ≤ room_of new
+
+-- room for octets of a frame was refused to the connection of a number, which had reserved none: nothing was taken, and
+-- nothing has changed
+pub record LacksRoom {S A : Type 0} (old new : Collector S) (number : ℕ) (result : Result A CollectFault) : Type 0 where
+  pub fault_is : result ≡ Err (Memory 0)
+  pub same : HaveSameConnections old new
+  pub grows : has_reserved (connection_in old.connections number) ≡ false

@@ -1,5 +1,5 @@
 -- The connection of a number.
-use Rattle.std.specs.Prelude.{◌≡◌, ◌==◌, ◌≤◌, ℕ, ◌+◌, cond, nat_eq, Option, Some, None}
+use Rattle.std.specs.Prelude.{◌≡◌, ◌==◌, ◌≤◌, ℕ, ◌+◌, cond, nat_eq, Bool, true, Option, Some, None}
 use Rattle.std.specs.HashMap as hash
 use Rattle.slab.specs.Slab.{Slab, get, slab_len}
 use Rattle.syslog_collect.specs.declared.connection.Connection.{Connection}
@@ -57,3 +57,12 @@ pub record KeepsAll (old new : Connections) : Type 0 where
   pub count : count_in new ≡ count_in old
   pub limit : new.limit ≡ old.limit
   pub room : old.slots.capacity ≤ new.slots.capacity
+
+-- a connection, if there is one, has reserved the room for a whole record
+abbrev pub has_reserved : Option Connection → Bool
+has_reserved None = true
+has_reserved (Some x) = x.scanner.reserved
+
+-- each of them has
+abbrev pub AllReserved : Connections → Type 0
+AllReserved cs = (d : ℕ) → has_reserved (connection_in cs d) ≡ true

@@ -79,8 +79,8 @@ IsBetweenFrames h w (event_Piece c o) taken = IsBetweenAt c o.now taken (w c) h
 IsBetweenFrames h w (event_Ended c) taken = taken ≡ 0
 IsBetweenFrames h w (event_Datagram o) taken = taken ≡ 0
 
--- an event is refused after a history, so many octets of a piece being taken: the log has no room for an outcome,
--- between frames; or the event's call is refused
+-- an event is refused after a history, so many octets of a piece being taken: there is no room for an outcome in the
+-- log, or for octets of a frame, and that is between frames; or the event's call is refused
 abbrev pub StopsAt : ℕ → FrameReading → History → (ℕ → ℕ) → Event → ℕ → CollectFault → Type 0
 StopsAt limit way h w e taken fault = (taken ≤ length (octets_of e))
     × (((fault ≡ Memory 0) × IsBetweenFrames h w e taken) ⊎ IsRefusal limit way h w e taken fault)
@@ -131,18 +131,18 @@ IfStopped (end_Stopped taken fault) P = P taken fault
 abbrev pub IsBetween : List ℕ → ℕ → ℕ → Stream → Type 0
 IsBetween piece taken waits s = (taken ≡ 0) ⊎ ((waits ≡ 0) × IsWholeWith (take taken piece) s)
 
--- a piece of an opening is refused: the log has no room, between frames; or there is a cause
+-- a piece of an opening is refused: there is no room in the log, or for a frame, between frames; or there is a cause
 abbrev pub StopsPiece : FrameReading → List ℕ → ℕ → ℕ → CollectFault → Stream → Type 0
 StopsPiece way piece taken waits fault s =
     ((fault ≡ Memory 0) × IsBetween piece taken waits s) ⊎ IsPieceCause way piece taken waits fault s
 
--- a step of a piece is refused where so many frames waited: the log has no room, and nothing was taken; or there is a
+-- a step of a piece is refused where so many frames waited: there is no room, and nothing was taken; or there is a
 -- cause, and where it is want of memory, a frame waited or an octet was taken
 abbrev pub StopsStep : FrameReading → List ℕ → ℕ → ℕ → ℕ → CollectFault → Stream → Type 0
 StopsStep way rest used waited waits fault s = ((fault ≡ Memory 0) × (used ≡ 0) × (waits ≡ waited))
     ⊎ (IsPieceCause way rest used waits fault s × IfMemory {A = Unit {0}} (Err fault) (0 < waited + used))
 
--- a piece of a number is refused after a history: the log has no room, between frames; or there is a cause
+-- a piece of a number is refused after a history: there is no room, between frames; or there is a cause
 abbrev pub StopsPieceAt : FrameReading → ℕ → List ℕ → ℕ → ℕ → CollectFault → History → Type 0
 StopsPieceAt way c piece taken waits fault h =
     ((fault ≡ Memory 0) × IsBetweenAt c piece taken waits h) ⊎ IsPieceRefusal way c piece taken waits fault h

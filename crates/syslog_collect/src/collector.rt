@@ -1,31 +1,27 @@
 //! The collector: streams in pieces, and datagrams, into a set of records.
 
-ghost use Rattle.std.specs.Prelude.{◌≡◌, ◌≤◌, ◌⊎◌, ◌↔◌, ◌++◌, ◌==◌, ℕ, List, [], IfErr, IfOk, IfSome, OnErr, OnOk, max, min};
+ghost use Rattle.std.specs.Prelude.{◌≡◌, ◌≤◌, ◌⊎◌, ◌↔◌, ◌++◌, ◌==◌, ℕ, List, [], IfErr, IfOk, IfSome, OnErr, OnOk};
+ghost use Rattle.std.specs.Prelude.{false, max, min, true};
 ghost use Rattle.archive_text.specs.Entries.{Entry, Has};
-ghost use Rattle.archive_text.specs.Sets.{IsUnionOfEntries};
-ghost use Rattle.archive_text.specs.Text.{IsArchive, text_of};
 ghost use Rattle.syslog_legacy.specs.FrameReadings.{whole};
 ghost use Rattle.syslog_collect.specs.Answers.{IfRefused, IfUnreleased, IsAnswerAt, IsEnding, IsOpening, IsTaken};
 ghost use Rattle.syslog_collect.specs.Answers.{IsUsedWithin, accepted_octets, dropped_octets, used_octets};
 ghost use Rattle.syslog_collect.specs.Answers.{accepted_datagram, accepted_ending, accepted_opening, accepted_piece};
-ghost use Rattle.syslog_collect.specs.Collectors.{GoesOn, HaveSameConnections, NoneWaits, Stands, WaitAlike, behind};
-ghost use Rattle.syslog_collect.specs.Collectors.{limit_of, reading_of, room_of, store_of, waits_of};
 ghost use Rattle.syslog_collect.specs.Frames.{IsReceived};
-ghost use Rattle.syslog_collect.specs.Headline.{ReceivedBoth, ReceivedSame};
 ghost use Rattle.syslog_collect.specs.History.{AcceptedEvent, history_of, stream_of};
 ghost use Rattle.syslog_collect.specs.Logs.{Reports, waiting_then};
 ghost use Rattle.syslog_collect.specs.Outcomes.{IsOutcome, IsRecordFrame, outcomes_of};
 
 use crate::advancing::advance_connection;
-use crate::connection::{Connection, handle};
+use crate::connection::{Connection, handle, new_scanner};
 use crate::connections::Connections;
 use crate::fault::{Advance, CollectFault};
 use crate::limits::{CONNECTIONS_LIMIT, CONNECTIONS_MAX};
 use crate::observer::Unobserved;
 use crate::outcome::Outcome;
-use archive_text::{ENTRY_MAX, Store};
+use archive_text::Store;
 use std::alloc::{AllocError, Global};
-use syslog_frame::{EndFault, Framing, Scanner};
+use syslog_frame::{EndFault, Framing};
 use syslog_legacy::{FrameReading, LegacyClock};
 
 /// A collector: open connections, and the store into which the records of their frames go.
@@ -39,15 +35,22 @@ pub struct Collector<S> {
     pub(crate) store: S,
     pub(crate) connections: Connections,
     pub(crate) reading: FrameReading,
+    // whether a connection reserves the room for a whole record as it is opened
+    reserves: bool,
 }
 
 impl<S: Store> Collector<S> {
+    ghost use Rattle.syslog_collect.specs.Collectors.{GoesOn, HaveSameConnections, NoneWaits, Stands, WaitAlike, behind};
+    ghost use Rattle.syslog_collect.specs.Collectors.{HasAllRoom, LacksRoom, limit_of, reading_of, reserves_of, room_of};
+    ghost use Rattle.syslog_collect.specs.Collectors.{store_of, waits_of};
+
     /// A collector over a store, with room for `CONNECTIONS_MAX` connections, that reads frames
     /// whole. If that room cannot be allocated, the store comes back.
     pub fn new(alloc: Global, store: S, clock: Option<LegacyClock>) -> Result<Collector<S>, S>
         ensures stands { IfOk result (λ c. Stands S.entries c (S.entries store) []) }
         ensures settled { IfOk result (λ c. NoneWaits c) }
         ensures reading { IfOk result (λ c. reading_of c ≡ whole clock) }
+        ensures reserves { IfOk result (λ c. (reserves_of c ≡ true) × HasAllRoom c) }
         ensures back { IfErr result (λ s. s ≡ store) }
         ensures room { IfOk result (λ c. CONNECTIONS_MAX ≤ room_of c) }
         ensures limit { IfOk result (λ c. limit_of c ≡ CONNECTIONS_MAX) }
@@ -61,6 +64,7 @@ impl<S: Store> Collector<S> {
         ensures stands { IfOk result (λ c. Stands S.entries c (S.entries store) []) }
         ensures settled { IfOk result (λ c. NoneWaits c) }
         ensures reading { IfOk result (λ c. reading_of c ≡ reading) }
+        ensures reserves { IfOk result (λ c. (reserves_of c ≡ true) × HasAllRoom c) }
         ensures back { IfErr result (λ s. s ≡ store) }
         ensures room { IfOk result (λ c. CONNECTIONS_MAX ≤ room_of c) }
         ensures limit { IfOk result (λ c. limit_of c ≡ CONNECTIONS_MAX) }
@@ -80,6 +84,49 @@ impl<S: Store> Collector<S> {
         ensures stands { IfOk result (λ c. Stands S.entries c (S.entries store) []) }
         ensures settled { IfOk result (λ c. NoneWaits c) }
         ensures reading { IfOk result (λ c. reading_of c ≡ reading) }
+        ensures reserves { IfOk result (λ c. (reserves_of c ≡ true) × HasAllRoom c) }
+        ensures back { IfErr result (λ s. s ≡ store) }
+        ensures room { IfOk result (λ c. limit_of c ≤ room_of c) }
+        ensures limit { IfOk result (λ c.
+            limit_of c ≡ max CONNECTIONS_MAX (min connections CONNECTIONS_LIMIT)) }
+    {
+        Collector::with_room(alloc, store, reading, connections, true)
+    }
+
+    /// A collector as by [`Collector::with_connections`] whose connections reserve no room: the room
+    /// of each grows with its frame, and is given back when that has ended. So many connections that
+    /// are silent cost little; but a piece may be refused with `Memory { used: 0 }` for want of room,
+    /// where no frame waits. Then no octet of the frame was taken.
+    pub fn with_growing_room(
+        alloc: Global,
+        store: S,
+        reading: FrameReading,
+        connections: usize,
+    ) -> Result<Collector<S>, S>
+        ensures stands { IfOk result (λ c. Stands S.entries c (S.entries store) []) }
+        ensures settled { IfOk result (λ c. NoneWaits c) }
+        ensures reading { IfOk result (λ c. reading_of c ≡ reading) }
+        ensures reserves { IfOk result (λ c. (reserves_of c ≡ false) × HasAllRoom c) }
+        ensures back { IfErr result (λ s. s ≡ store) }
+        ensures room { IfOk result (λ c. limit_of c ≤ room_of c) }
+        ensures limit { IfOk result (λ c.
+            limit_of c ≡ max CONNECTIONS_MAX (min connections CONNECTIONS_LIMIT)) }
+    {
+        Collector::with_room(alloc, store, reading, connections, false)
+    }
+
+    // A collector whose connections reserve room or do not.
+    fn with_room(
+        alloc: Global,
+        store: S,
+        reading: FrameReading,
+        connections: usize,
+        reserves: bool,
+    ) -> Result<Collector<S>, S>
+        ensures stands { IfOk result (λ c. Stands S.entries c (S.entries store) []) }
+        ensures settled { IfOk result (λ c. NoneWaits c) }
+        ensures reading { IfOk result (λ c. reading_of c ≡ reading) }
+        ensures reserves { IfOk result (λ c. (reserves_of c ≡ reserves) × HasAllRoom c) }
         ensures back { IfErr result (λ s. s ≡ store) }
         ensures room { IfOk result (λ c. limit_of c ≤ room_of c) }
         ensures limit { IfOk result (λ c.
@@ -90,6 +137,7 @@ impl<S: Store> Collector<S> {
                 store,
                 connections,
                 reading,
+                reserves,
             }),
             Err(_) => Err(store),
         }
@@ -122,7 +170,7 @@ impl<S: Store> Collector<S> {
         if self.connections.is_full() {
             return Err(CollectFault::TooManyOpen);
         }
-        let Ok(scanner) = Scanner::new(alloc, framing) else {
+        let Ok(scanner) = new_scanner(alloc, framing, self.reserves) else {
             return Err(CollectFault::Memory { used: 0 });
         };
         let connection = Connection {
@@ -142,8 +190,9 @@ impl<S: Store> Collector<S> {
     /// It is refused, in this order, with `NotOpen`, `ConnFailed` after a bad count, and
     /// `StreamTooLong` if the stream would have more than `POSITION_MAX` octets. These change
     /// nothing. After `Memory { used }` so many octets were taken, and the frame stays ready: the
-    /// next call handles it. After `BadCount` the connection takes no more octets; the others go
-    /// on.
+    /// next call handles it. Only in a collector by [`Collector::with_growing_room`], `Memory { used:
+    /// 0 }` also comes where room for octets of a frame is refused: then nothing has changed. After
+    /// `BadCount` the connection takes no more octets; the others go on.
     pub fn advance(
         &mut self,
         alloc: Global,
@@ -156,7 +205,7 @@ impl<S: Store> Collector<S> {
         // it is of the frame that waits.
         ensures taken { (past first : List Entry) (events : List AcceptedEvent)
             → Stands (behind past S.entries) self.old first events
-            → IfSome (stream_of conn (history_of events).streams)
+            → LacksRoom self.old self.new conn result ⊎ IfSome (stream_of conn (history_of events).streams)
             (IsTaken piece.now (waits_of self.old conn) result) }
         // It stands at the events with what was accepted: the octets used, and a bad one.
         ensures goes_on { GoesOn S.entries self.old self.new
@@ -172,11 +221,13 @@ impl<S: Store> Collector<S> {
             (history_of events) (waits_of self.old conn) (S.entries (store_of self.old))
             (S.entries (store_of self.new)) (outcomes_of a.outcome)) }
         // After Ok no frame of the connection waits; where memory was refused, one does.
-        ensures waits { (d : ℕ) → waits_of self.new d ≡ waiting_then result conn (waits_of self.old) d }
+        ensures waits { LacksRoom self.old self.new conn result
+            ⊎ ((d : ℕ) → waits_of self.new d ≡ waiting_then result conn (waits_of self.old) d) }
         // Why the piece is refused.
         ensures cause { (past first : List Entry) (events : List AcceptedEvent)
             → Stands (behind past S.entries) self.old first events
-            → IsAnswerAt (reading_of self.old) conn piece.now result (history_of events) }
+            → LacksRoom self.old self.new conn result
+            ⊎ IsAnswerAt (reading_of self.old) conn piece.now result (history_of events) }
         // A refusal changes nothing, but where memory was refused.
         ensures unchanged { IfRefused result ((HaveSameConnections self.old self.new)
             × (store_of self.new ≡ store_of self.old)) }
@@ -260,35 +311,3 @@ impl<S: Store> Collector<S> {
         &self.store
     }
 }
-
-/// The headline: two collectors over stores that were empty, of any two kinds, whose received sets
-/// are equal, hold the same entries in the same order. So their archives, as `Store::write` writes
-/// them, are byte-equal, whatever the framings, cuts, orders, interleavings and repetitions. Both
-/// must read frames in the same way.
-pub fn same_archives<S: Store, T: Store>(one: &Collector<S>, two: &Collector<T>)
-    ensures entries { (events others : List AcceptedEvent) → reading_of one.now ≡ reading_of two.now
-        → Stands S.entries one.now [] events → Stands T.entries two.now [] others
-        → NoneWaits one.now → NoneWaits two.now → ReceivedSame (reading_of one.now) events others
-        → S.entries (store_of one.now) ≡ T.entries (store_of two.now) }
-    ensures texts { (events others : List AcceptedEvent) → reading_of one.now ≡ reading_of two.now
-        → Stands S.entries one.now [] events → Stands T.entries two.now [] others
-        → NoneWaits one.now → NoneWaits two.now → ReceivedSame (reading_of one.now) events others
-        → text_of (S.entries (store_of one.now)) ≡ text_of (T.entries (store_of two.now)) }
-{}
-
-/// Merging: the union of the archives of two collectors is the archive of a collector that received
-/// what the two did. All must read frames in the same way.
-pub fn merged_archives<S: Store, T: Store, U: Store>(
-    one: &Collector<S>,
-    two: &Collector<T>,
-    all: &Collector<U>,
-)
-    ensures { (events others both : List AcceptedEvent) (merged : List Entry)
-        → reading_of one.now ≡ reading_of two.now → reading_of one.now ≡ reading_of all.now
-        → Stands S.entries one.now [] events → Stands T.entries two.now [] others
-        → Stands U.entries all.now [] both
-        → NoneWaits one.now → NoneWaits two.now → NoneWaits all.now
-        → ReceivedBoth (reading_of one.now) both events others → IsArchive ENTRY_MAX merged
-        → IsUnionOfEntries (S.entries (store_of one.now)) (T.entries (store_of two.now)) merged
-        → merged ≡ U.entries (store_of all.now) }
-{}

@@ -1,12 +1,13 @@
 //! One connection, and what one frame of it does to a store.
 
-ghost use Rattle.std.specs.Prelude.{◌≡◌, ◌≤◌, ◌<◌, ◌⊎◌, ℕ, List, length, IfOk, OnErr, OnOk};
+ghost use Rattle.std.specs.Prelude.{◌≡◌, ◌≤◌, ◌<◌, ◌⊎◌, ℕ, List, [], length, IfOk, OnErr, OnOk};
 ghost use Rattle.syslog_reading.specs.ViewParts.{IsViewOf, view_parts};
 ghost use Rattle.syslog_legacy.specs.FrameReadings.{whole};
 ghost use Rattle.syslog_legacy.specs.NewForm.{HasNewForm};
 ghost use Rattle.syslog_legacy.specs.Readings.{Legacy, ReadAs};
 ghost use Rattle.syslog_legacy.specs.Views.{legacy_view_parts};
-ghost use Rattle.syslog_frame.specs.Scan.{HasFrame};
+ghost use Rattle.syslog_frame.specs.Reads.{Reads};
+ghost use Rattle.syslog_frame.specs.Scan.{HasFrame, IsReading, Stands};
 ghost use Rattle.syslog_collect.specs.Observers.{TellsReady};
 ghost use Rattle.syslog_collect.specs.Outcomes.{HandlesReady, HasEntry, HasFittingEntry, HasRecord};
 ghost use Rattle.syslog_collect.specs.Outcomes.{IsOutcome, IsRecordFrame, added_outcome};
@@ -15,7 +16,7 @@ use crate::observer::Observer;
 use crate::outcome::Outcome;
 use archive_text::{AddFault, Added, Store};
 use std::alloc::{AllocError, Global};
-use syslog_frame::{FRAME_MAX, Ready, Scanner};
+use syslog_frame::{FRAME_MAX, Framing, GrowingScanner, Ready};
 use syslog_grammar::{RecordView, view};
 use syslog_legacy::{FrameReading, LegacyClock, LegacyView, has_new_form, legacy_view};
 
@@ -25,7 +26,27 @@ pub struct Connection {
     /// Its number, which the caller chose.
     pub number: u32,
     /// The scanner of its stream.
-    pub scanner: Scanner,
+    pub scanner: GrowingScanner,
+}
+
+/// A scanner before the first octet of a stream, with room for a whole record if that is to be
+/// reserved.
+pub fn new_scanner(
+    alloc: Global,
+    framing: Framing,
+    reserves: bool,
+) -> Result<GrowingScanner, AllocError>
+    ensures stands { IfOk result (λ s. Stands FRAME_MAX s framing 0 [] × IsReading s) }
+    ensures reads { IfOk result (λ s. Reads FRAME_MAX s framing 0 [] [] []) }
+    ensures reserved { IfOk result (λ s. s.reserved ≡ reserves) }
+{
+    if !reserves {
+        return Ok(GrowingScanner::new(alloc, framing));
+    }
+    match GrowingScanner::reserved(alloc, framing, 0) {
+        Ok(scanner) => Ok(scanner),
+        Err(_) => Err(AllocError),
+    }
 }
 
 /// The record that a view shows has an entry: an instant that it has is some civil time.
@@ -169,7 +190,7 @@ pub fn handle<S: Store>(
 pub fn handle_ready<S: Store, O: Observer>(
     alloc: Global,
     reading: FrameReading,
-    scanner: &Scanner,
+    scanner: &GrowingScanner,
     store: &mut S,
     observer: &mut O,
 ) -> Result<Option<Outcome>, AllocError>

@@ -1,19 +1,22 @@
 //! Laws of received sets, as contracts.
 
-ghost use Rattle.std.specs.Prelude.{◌≡◌, ◌↔◌, ◌≤◌, ◌⊎◌, ◌++◌, ℕ, ℤ, List, None, length};
+ghost use Rattle.std.specs.Prelude.{◌≡◌, ◌↔◌, ◌≤◌, ◌⊎◌, ◌++◌, ℕ, ℤ, List, [], None, length};
 ghost use Rattle.syslog_value.specs.Parts.{Parts};
 ghost use Rattle.syslog_reading.specs.WellFormed.{WellFormed};
 ghost use Rattle.syslog_frame.specs.declared.limits.TheConstants.{FRAME_MAX};
 ghost use Rattle.archive_text.specs.Entries.{Entry, Has, IsEntryOf};
+ghost use Rattle.archive_text.specs.Sets.{IsUnionOfEntries};
+ghost use Rattle.archive_text.specs.Text.{IsArchive, text_of};
 ghost use Rattle.syslog_collect.specs.Collectors.{HaveSameEntries, NoneWaits, Stands, behind, reading_of};
 ghost use Rattle.syslog_collect.specs.Collectors.{store_of, with_store};
 ghost use Rattle.syslog_collect.specs.Frames.{IsFrameOf, IsReceived};
+ghost use Rattle.syslog_collect.specs.Headline.{ReceivedBoth, ReceivedSame};
 ghost use Rattle.syslog_collect.specs.History.{AcceptedEvent};
 ghost use Rattle.syslog_legacy.specs.FrameReadings.{IsLegacy, IsNotUtf8At, IsReadAs, whole};
 ghost use Rattle.syslog_legacy.specs.declared.frame_reading.FrameReading.{FrameReading};
 
 use crate::collector::Collector;
-use archive_text::Store;
+use archive_text::{ENTRY_MAX, Store};
 
 /// The received set is exactly that of the records as which some frame of at most `FRAME_MAX`
 /// octets is read.
@@ -54,4 +57,36 @@ pub fn stands_behind<S: Store>(collector: &Collector<S>)
         → Stands (behind past S.entries) collector.now first events → NoneWaits collector.now
         → (x : Entry) → Has (past ++ S.entries (store_of collector.now)) x
         ↔ (Has first x ⊎ IsReceived (reading_of collector.now) events x) }
+{}
+
+/// The headline: two collectors over stores that were empty, of any two kinds, whose received sets
+/// are equal, hold the same entries in the same order. So their archives, as `Store::write` writes
+/// them, are byte-equal, whatever the framings, cuts, orders, interleavings and repetitions. Both
+/// must read frames in the same way.
+pub fn same_archives<S: Store, T: Store>(one: &Collector<S>, two: &Collector<T>)
+    ensures entries { (events others : List AcceptedEvent) → reading_of one.now ≡ reading_of two.now
+        → Stands S.entries one.now [] events → Stands T.entries two.now [] others
+        → NoneWaits one.now → NoneWaits two.now → ReceivedSame (reading_of one.now) events others
+        → S.entries (store_of one.now) ≡ T.entries (store_of two.now) }
+    ensures texts { (events others : List AcceptedEvent) → reading_of one.now ≡ reading_of two.now
+        → Stands S.entries one.now [] events → Stands T.entries two.now [] others
+        → NoneWaits one.now → NoneWaits two.now → ReceivedSame (reading_of one.now) events others
+        → text_of (S.entries (store_of one.now)) ≡ text_of (T.entries (store_of two.now)) }
+{}
+
+/// Merging: the union of the archives of two collectors is the archive of a collector that received
+/// what the two did. All must read frames in the same way.
+pub fn merged_archives<S: Store, T: Store, U: Store>(
+    one: &Collector<S>,
+    two: &Collector<T>,
+    all: &Collector<U>,
+)
+    ensures { (events others both : List AcceptedEvent) (merged : List Entry)
+        → reading_of one.now ≡ reading_of two.now → reading_of one.now ≡ reading_of all.now
+        → Stands S.entries one.now [] events → Stands T.entries two.now [] others
+        → Stands U.entries all.now [] both
+        → NoneWaits one.now → NoneWaits two.now → NoneWaits all.now
+        → ReceivedBoth (reading_of one.now) both events others → IsArchive ENTRY_MAX merged
+        → IsUnionOfEntries (S.entries (store_of one.now)) (T.entries (store_of two.now)) merged
+        → merged ≡ U.entries (store_of all.now) }
 {}

@@ -48,10 +48,12 @@ mod outcome;
 mod piece;
 mod running;
 
-pub use collector::{Collector, merged_archives, same_archives};
+pub use collector::Collector;
 pub use event::{Event, EventEnd, RunEnd};
 pub use fault::{Advance, CollectFault};
-pub use law::{frames_have_one_reading, received_records, stands_behind};
+pub use law::{
+    frames_have_one_reading, merged_archives, received_records, same_archives, stands_behind,
+};
 pub use limits::{CONNECTIONS_LIMIT, CONNECTIONS_MAX};
 pub use observer::Observer;
 pub use outcome::Outcome;

@@ -73,6 +73,7 @@ fn take_step<S: Store, O: Observer>(
     ensures settled { IfAccepted result (¬ (HasReady connection.new.scanner)) }
     ensures progress { OnGoing result (λ used. (0 < used) ⊎ HasReady connection.old.scanner) }
     ensures number { connection.new.number ≡ connection.old.number }
+    ensures reserved { connection.new.scanner.reserved ≡ connection.old.scanner.reserved }
     ensures moves { (s : Stream) (handled : List (List ℕ)) → IsAt connection.old s handled
         → Logs reading connection.old connection.new (S.entries store.old) (S.entries store.new)
         (step_octets rest.now result) log.old.items log.new.items s handled }
@@ -121,6 +122,7 @@ pub fn take_piece<S: Store, O: Observer>(
     ensures within { IfStopped result (λ taken fault. taken ≤ length piece.now) }
     ensures settled { IfDone result (¬ (HasReady connection.new.scanner)) }
     ensures number { connection.new.number ≡ connection.old.number }
+    ensures reserved { connection.new.scanner.reserved ≡ connection.old.scanner.reserved }
     ensures moves { (s : Stream) (handled : List (List ℕ)) → IsAt connection.old s handled
         → Logs reading connection.old connection.new (S.entries store.old) (S.entries store.new)
         (piece_octets piece.now result) log.old.items log.new.items s handled }

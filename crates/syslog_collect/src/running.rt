@@ -156,8 +156,9 @@ impl<S: Store> Collector<S> {
     /// is a piece, `taken` of its octets, so that the caller may go on with the rest; an end that
     /// is refused with `Unterminated` has closed its connection. If memory was refused for a
     /// record, `Memory { used }` tells how many of these octets are of its frame. Room for an
-    /// outcome is made in the log before each call: if that is refused, the fault is `Memory {
-    /// used: 0 }`, and either no octets were taken, or they end a frame and none waits.
+    /// outcome is made in the log before each call: if that is refused, or room for octets of a
+    /// frame is in a collector by [`Collector::with_growing_room`], the fault is `Memory { used: 0
+    /// }`, and either no octets were taken, or they end a frame and none waits.
     pub fn run(&mut self, alloc: Global, events: &[Event<'_>], log: &mut Vec<Outcome>) -> RunEnd
         // It stands at the events with those that were accepted, and with the part of the last.
         ensures goes_on { GoesOn S.entries self.old self.new (accepted_run events.now result) }

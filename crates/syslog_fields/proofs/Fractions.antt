@@ -60,7 +60,7 @@ pub utc : AnyZone (90 ∷ [])
 utc = (pos 0, inl (refl, refl))
 
 -- a text of a zone by its first octet
-zone_cases : (s : List ℕ) → AnyZone s → (s ≡ 90 ∷ [])
+pub zone_cases : (s : List ℕ) → AnyZone s → (s ≡ 90 ∷ [])
     ⊎ ((t : List ℕ) × AnyOf OffsetText t × ((s ≡ 43 ∷ t) ⊎ (s ≡ 45 ∷ t)))
 zone_cases s (o, inl (e, f)) = inl f
 zone_cases s (o, inr (m, inl (e, (x, y, f, h, k)))) = inr (y, (m, k), inl (f ∙ ap (λ (u : List ℕ). u ++ y) h))

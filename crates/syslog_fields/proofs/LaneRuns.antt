@@ -5,7 +5,7 @@ use Rattle.std.proofs.Common.{refl, [], ◌∷◌, inl, inr, ◌*◌}
 use Rattle.std.specs.Prelude.{nat_le, ◌==◌, Option, Some, None}
 use Rattle.std.specs.List.{AllByRecursion, prefix_len}
 use Rattle.memchr.specs.Find.{IsFirstByte, Nowhere, Passes, is_byte, is_byte2}
-use Rattle.std.proofs.lemmas.Bool.{agree_below, agree_below_at, cases_lt}
+use Rattle.std.proofs.lemmas.Bool.{agree_below, agree_below_at, cases_lt, or_parts}
 use Rattle.std.proofs.lemmas.Bool.Decides.{nat_tests}
 use Rattle.std.proofs.lemmas.Simd.{map-map, mask_l-mod, length-chunk, length-zip2, get_or-chunk, zip2_of_maps, first_set_mask_l}
 use Rattle.std.proofs.lemmas.Simd.{run_in_chunk_le, run_in_chunk_fails, run_in_chunk_stops}
@@ -120,7 +120,7 @@ nowhere_on P i j before behind k low less = elim (cases_lt k i) [
   | inr m ↦ behind k m less
 ]
 
-doubly : (b : Bool) → ¬ (¬ (b ≡ true)) → b ≡ true
+pub doubly : (b : Bool) → ¬ (¬ (b ≡ true)) → b ≡ true
 doubly true h = refl
 doubly false h = absurd (h (λ e. false_true e))
   where
@@ -172,14 +172,10 @@ run_on P i (suc r) s room prefix each =
 
 -- ---- octets between those of two texts
 
-neither : (p q : Bool) → (p || q) ≡ false → (p ≡ false) × (q ≡ false)
-neither true q e = absurd cc
-neither false q e = (refl, e)
-
 -- the lane of an octet is set where it is below the one or above the other
 lane_between : (x l m : ℕ) → top 7 (bit_or (cond (ltb x l) 255 0) (cond (ltb m x) 255 0)) ≡ false → (l ≤ x) × (x ≤ m)
 lane_between x l m e =
-    let both = neither (ltb x l) (ltb m x) (sym (either_lane (ltb x l) (ltb m x)) ∙ e) in
+    let both = or_parts (ltb x l) (ltb m x) (sym (either_lane (ltb x l) (ltb m x)) ∙ e) in
     (grind (arith, common_steps, nat_tests, both.0), grind (arith, common_steps, nat_tests, both.1))
 
 -- the lowest lane, and those above it

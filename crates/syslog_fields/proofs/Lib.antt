@@ -25,3 +25,4 @@ pub mod ValueForms
 pub mod ReadForms
 pub mod Stamps
 pub mod KeptRuns
+pub mod CanonicalTexts

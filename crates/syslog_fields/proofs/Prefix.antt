@@ -4,11 +4,7 @@ use Rattle.std.specs.Prelude.{Result, Ok, Err}
 use Rattle.octet_language.specs.Language.{Language, Begins, Refuses, NoPrefix, IfFirst}
 use Rattle.octet_language.specs.Reading.{Fails, Passes}
 use Rattle.octet_language.proofs.Lists.{heads, tails}
-
-refuses_behind : (L M : Language) (x : ℕ) (p rest : List ℕ) → ((s : List ℕ) → M (x ∷ s) → L s) → Refuses L p rest
-    → Refuses M (x ∷ p) rest
-refuses_behind L M x p [] from r = tt
-refuses_behind L M x p (y ∷ rest) from r = λ (more, m). r (more, from ((p ++ y ∷ []) ++ more) m)
+use Rattle.octet_language.proofs.FirstOctet.{refuses_alike, refuses_behind}
 
 none_behind : (L M : Language) (x : ℕ) (b : List ℕ) → ((s : List ℕ) → M (x ∷ s) → L s) → ¬ (M []) → NoPrefix L b
     → NoPrefix M (x ∷ b)
@@ -36,22 +32,6 @@ Passes-behind at L M x b rest view (Err s) from to some e f = rw e (record {
 
 -- ---- where the texts of two languages that begin with one octet are alike
 
-alike_refuses : (L M : Language) (x : ℕ) (b p rest : List ℕ) (y : ℕ) → ((s : List ℕ) → M (x ∷ s) → L (x ∷ s))
-    → x ∷ b ≡ p ++ y ∷ rest → ¬ (Begins L (p ++ y ∷ [])) → ¬ (Begins M (p ++ y ∷ []))
-alike_refuses L M x b [] rest y from e r =
-    λ (more, m). r (
-      more,
-      subst (λ (n : ℕ). L (n ∷ more)) (heads x y b rest e)
-          (from more (subst (λ (n : ℕ). M (n ∷ more)) (sym (heads x y b rest e)) m)),
-    )
-alike_refuses L M x b (z ∷ p) rest y from e r = λ (more, m).
-    let head = heads x z b (p ++ y ∷ rest) e in
-    r (
-      more,
-      subst (λ (n : ℕ). L (n ∷ (p ++ y ∷ []) ++ more)) head
-          (from ((p ++ y ∷ []) ++ more) (subst (λ (n : ℕ). M (n ∷ (p ++ y ∷ []) ++ more)) (sym head) m)),
-    )
-
 alike_begins : (L M : Language) (x : ℕ) (b p rest t : List ℕ) → ((s : List ℕ) → L (x ∷ s) → M (x ∷ s))
     → x ∷ b ≡ p ++ rest → M t → Begins L p → Begins M p
 alike_begins L M x b [] rest t to e some (more, l) = (t, some)
@@ -69,11 +49,6 @@ alike_none L M x b from some none (z ∷ u) v e m =
     let head = heads x z b (u ++ v) e in
     none (z ∷ u) v e (subst (λ (n : ℕ). L (n ∷ u)) head (from u (subst (λ (n : ℕ). M (n ∷ u)) (sym head) m)))
 
-alike_all : (L M : Language) (x : ℕ) (b p rest : List ℕ) → ((s : List ℕ) → M (x ∷ s) → L (x ∷ s)) → x ∷ b ≡ p ++ rest
-    → Refuses L p rest → Refuses M p rest
-alike_all L M x b p [] from e r = tt
-alike_all L M x b p (y ∷ rest) from e r = alike_refuses L M x b p rest y from e r
-
 pub Passes-alike : {X E : Type 0} (at : E → ℕ) (L M : Language) (x : ℕ) (b rest t : List ℕ) (view : X
     → List ℕ) (r : Result X E)
     → ((s : List ℕ) → M (x ∷ s) → L (x ∷ s)) → ((s : List ℕ) → L (x ∷ s) → M (x ∷ s)) → ¬ (L []) → ¬ (M []) → M t
@@ -90,7 +65,7 @@ Passes-alike at L M x b rest t view (Err s) from to someL some text e f = record
     parts = f.stops.parts;
     count = f.stops.count;
     begins = alike_begins L M x rest f.stops.read f.stops.rest t to (sym e ∙ f.stops.parts) text f.stops.begins;
-    refuses = alike_all L M x rest f.stops.read f.stops.rest from (sym e ∙ f.stops.parts) f.stops.refuses;
+    refuses = refuses_alike L M x rest f.stops.read f.stops.rest from (sym e ∙ f.stops.parts) f.stops.refuses;
   };
 }
 

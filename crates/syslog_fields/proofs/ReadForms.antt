@@ -20,6 +20,7 @@ use Rattle.syslog_fields.proofs.Characters.{character_some}
 use Rattle.syslog_fields.proofs.Unescaped.{plain_bare}
 use Rattle.syslog_fields.proofs.ValueForms.{escaped_join, escaped_special, joined}
 use Rattle.syslog_fields.proofs.Values.{no_special, plain_octet}
+use Rattle.std.proofs.Math.Seq.{take-append_seam}
 
 pub form_text : (d : ElementParts) → element_form d ≡ 91 ∷ (d.id ++ (flat_map param_form d.params ++ 93 ∷ []))
 form_text d = ap (λ (s : List ℕ). 91 ∷ s) (append_assoc d.id (flat_map param_form d.params) (93 ∷ []))
@@ -93,10 +94,6 @@ exact_read A form a b rest after r s = record {
       (exact_form a r.text (flat_map form r.value) s.text (form s.value) r.answer s.answer);
 }
 
-pub take_append : (s t : List ℕ) → take (length s) (s ++ t) ≡ s
-take_append [] t = refl
-take_append (x ∷ s) t = ap (λ (u : List ℕ). x ∷ u) (take_append s t)
-
 -- up to a mark: the text is what stands before it
 pub taken_form : {V : Type 0} (A : V → Language) (form : V → List ℕ) (a : Bool) (b rest text : List ℕ) (m : ℕ)
     → ReadsForm A form a b (m ∷ rest) → text ≡ take (length b - length rest - 1) b → HasForm A form a text
@@ -104,7 +101,7 @@ taken_form A form a b rest text m r e =
     let n : length b - length rest - 1 ≡ length r.text =
     omega (arith, ap length r.parts, length-append r.text (m ∷ rest)) in
     let same : text ≡ r.text = e ∙ ap (λ (k : ℕ). take k b) n ∙ ap (take (length r.text)) r.parts
-    ∙ take_append r.text (m ∷ rest) in
+    ∙ take-append_seam r.text (m ∷ rest) in
     (r.value, subst (A r.value) (sym same) r.is, subst (λ (t : List ℕ). IsForm a t (form r.value)) (sym same) r.answer)
 
 -- ---- pieces of a value

@@ -96,14 +96,18 @@ pub two_read : (low high : ℕ) (b : List ℕ) (x : ℕ) (rest : List ℕ) (y : 
 two_read low high b x rest y after small e f tens d l h =
     (x ∷ y ∷ [], e ∙ ap (λ (u : List ℕ). x ∷ u) f, (l, h, two_back (number x y) x y (omega arith) (omega arith)))
 
-OneValue-two : (low high : ℕ) → high ≤ 99 → OneValue (Two low high)
+pub OneValue-two : (low high : ℕ) → high ≤ 99 → OneValue (Two low high)
 OneValue-two low high small v w s (l, h, e) (m, i, f) =
     let k = two_octets v (48 + w / 10 % 10) (48 + w % 10) [] (sym f ∙ e) in
     omega (arith, k.tens, k.units)
 
+-- numbers of two digits that are shown alike
+pub two_shown : (n m : ℕ) → n ≤ 99 → m ≤ 99 → 48 + n / 10 % 10 ≡ 48 + m / 10 % 10 → 48 + n % 10 ≡ 48 + m % 10 → n ≡ m
+two_shown n m h k a b = omega arith
+
 -- ---- years
 
-four_back : (a b c d a' b' c' d' : ℕ) → a ≡ a' → b ≡ b' → c ≡ c' → d ≡ d' → a ∷ b ∷ c ∷ d ∷ [] ≡ a' ∷ b' ∷ c' ∷ d' ∷ []
+pub four_back : (a b c d a' b' c' d' : ℕ) → a ≡ a' → b ≡ b' → c ≡ c' → d ≡ d' → a ∷ b ∷ c ∷ d ∷ [] ≡ a' ∷ b' ∷ c' ∷ d' ∷ []
 four_back a b c d a' b' c' d' e f g h = cc
 
 century_year : (c y : ℕ) → c ≤ 99 → y ≤ 99 → padded 4 (100 * c + y) ≡ padded 2 c ++ padded 2 y
@@ -176,7 +180,7 @@ IsPrefixFree-year_month = IsPrefixFree-pair YearText (Two 1 12) 45 IsPrefixFree-
 pub some_month : AnyOf (Two 1 12) (padded 2 1)
 some_month = (1, (omega arith, omega arith, refl))
 
-pair_ap : (a b c d : ℕ) → a ≡ b → c ≡ d → (let p : ℕ × ℕ = (a, c) in let q : ℕ × ℕ = (b, d) in p ≡ q)
+pub pair_ap : (a b c d : ℕ) → a ≡ b → c ≡ d → (let p : ℕ × ℕ = (a, c) in let q : ℕ × ℕ = (b, d) in p ≡ q)
 pair_ap a b c d e f = cc
 
 OneValue-year_month : OneValue YearMonth

@@ -12,7 +12,7 @@ pub const LANES: usize = 16;
 
 /// How many lanes come before the first one that is set in a mask.
 #[inline(always)]
-fn lanes_before(mask: u64) -> usize
+pub fn lanes_before(mask: u64) -> usize
     ensures { result ≡ first_set mask }
 {
     if mask == 0 {

@@ -5,7 +5,7 @@
 pub mod appending;
 pub mod backslash;
 mod character;
-mod lanes;
+pub mod lanes;
 pub mod name;
 pub mod near;
 pub mod priority;

@@ -6,13 +6,7 @@ ghost use Rattle.octet_language.specs.Reading.{Passes, Reads};
 ghost use Rattle.syslog_fields.specs.Grammar.{Number, Priority, Spaced, Version};
 ghost use Rattle.syslog_fields.specs.Stops.{remaining_of};
 
-use crate::reading::{Stop, expect, next};
-
-fn is_digit(octet: u8) -> bool
-    ensures { IsTrue result ↔ ((48 ≤ octet) × (octet ≤ 57)) }
-{
-    octet >= b'0' && octet <= b'9'
-}
+use crate::reading::{Stop, expect, is_digit, next};
 
 /// Whether a value up to 191 can continue with this digit.
 fn goes_on(value: u8, octet: u8) -> bool

@@ -1,6 +1,7 @@
 //! What every reader builds on: where it stops, the next octet, an expected octet.
 
-ghost use Rattle.std.specs.Prelude.{◌≡◌, ◌∷◌, ◌&&◌, [], MatchOption, drop};
+ghost use Rattle.std.specs.Prelude.{◌≡◌, ◌∷◌, ◌&&◌, ◌↔◌, [], IsTrue, MatchOption, drop};
+ghost use Rattle.octet_language.specs.Digits.{IsDigit};
 ghost use Rattle.octet_language.specs.Language.{Only};
 ghost use Rattle.octet_language.specs.Reading.{Passes};
 ghost use Rattle.syslog_fields.specs.Stops.{remaining_of};
@@ -41,6 +42,14 @@ pub fn both(left: bool, right: bool) -> bool
     ensures { result ≡ (left && right) }
 {
     left && right
+}
+
+/// Whether an octet is a digit of ASCII.
+#[inline(always)]
+pub fn is_digit(octet: u8) -> bool
+    ensures { IsTrue result ↔ IsDigit octet }
+{
+    octet >= b'0' && octet <= b'9'
 }
 
 /// Reads one octet, which must be the expected one. Another one, or none, is a [`Stop`].

@@ -17,7 +17,7 @@ ghost use Rattle.syslog_fields.specs.Time.{Decimals, OffsetText, TimeText, Two, 
 ghost use Rattle.syslog_fields.specs.Time.{ZoneText};
 
 use crate::lanes::has_date_shape;
-use crate::reading::{Stop, expect, next};
+use crate::reading::{Stop, expect, is_digit, next};
 use syslog_value::Civil;
 
 /// How many octets a date and a time of day have, such as `2003-10-11T22:14:15`.
@@ -37,13 +37,6 @@ pub struct Timestamp {
     pub civil: Civil,
     /// How many minutes that clock is ahead of UTC, -1,439 to 1,439.
     pub offset_minutes: i16,
-}
-
-#[inline(always)]
-fn is_digit(octet: u8) -> bool
-    ensures { IsTrue result ↔ IsDigit octet }
-{
-    octet >= b'0' && octet <= b'9'
 }
 
 /// Reads a number of two digits from `low` to `high`.
@@ -295,7 +288,7 @@ fn digit_at(digits: &[u8], offset: usize) -> u32
 
 /// The microseconds that the digits after the point stand for.
 #[inline(always)]
-fn micros(digits: &[u8]) -> u32
+pub fn micros(digits: &[u8]) -> u32
     requires most { length digits.now ≤ 6 }
     requires digits { AllByRecursion IsDigit digits.now }
     ensures value { result ≡ read_on 0 (digits.now ++ replicate (6 - length digits.now) 48) }

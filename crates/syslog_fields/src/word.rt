@@ -15,8 +15,9 @@ use crate::reading::{Stop, both, next};
 /// The limit above this one is that of host names.
 const HOSTNAME_FROM: usize = 128;
 
+/// Whether an octet is a printable octet of ASCII that is no space.
 #[inline(always)]
-fn is_printable(octet: u8) -> bool
+pub fn is_printable(octet: u8) -> bool
     ensures { IsTrue result ↔ IsPrintable octet }
 {
     octet >= 33 && octet <= 126

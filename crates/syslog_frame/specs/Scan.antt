@@ -1,5 +1,5 @@
 -- What a scanner holds, and where it is in a stream.
-use Rattle.std.specs.Prelude.{◌≡◌, ℕ, ◌+◌, ◌<◌, ◌≤◌, List, [], ◌∷◌, ◌++◌, length, decimal, ◌⊎◌}
+use Rattle.std.specs.Prelude.{◌≡◌, ℕ, Bool, ◌+◌, ◌<◌, ◌≤◌, List, [], ◌∷◌, ◌++◌, length, decimal, ◌⊎◌}
 use Rattle.syslog_frame.specs.Count.{IsCount}
 use Rattle.syslog_frame.specs.Frames.{IsLine}
 use Rattle.syslog_frame.specs.declared.framing.Framing.{Framing}
@@ -20,6 +20,8 @@ pub record Scan : Type 0 where
   -- how many octets of the record came, and these while they are few enough
   pub size : ℕ
   pub kept : List ℕ
+  -- room for a whole record is reserved, for good
+  pub reserved : Bool
 
 -- a frame is ready, or that one was too long
 abbrev pub HasFrame : Scan → Type 0

@@ -34,10 +34,15 @@ IsProgress Inside count piece n = n ≡ length piece
 IsProgress Counting count piece n = n ≡ length piece
 IsProgress Failed count piece n = ⊥
 
--- what is kept of a record of which so many octets came: all, unless they are too many, and there is room
-pub record HasRoom {Z : Type 0} (size : ℕ) (kept : Vec ℕ Z) : Type 0 where
-  pub room : FRAME_MAX ≤ vec_capacity kept
-  pub known : size ≤ FRAME_MAX → vec_len kept ≡ size
+-- of a record of which so many octets came all are kept, unless they are too many
+abbrev pub KeepsSize : {Z : Type 0} → ℕ → Vec ℕ Z → Type 0
+KeepsSize size kept = size ≤ FRAME_MAX → vec_len kept ≡ size
+
+-- what is kept, and the room for it, is what it was
+pub record IsSame {Z : Type 0} (old new : Vec ℕ Z) : Type 0 where
+  pub items : new.items ≡ old.items
+  pub len : vec_len new ≡ vec_len old
+  pub room : vec_capacity new ≡ vec_capacity old
 
 -- a piece advances a frame of which so many octets of its record came
 pub record Advances (framing : Framing) (size : ℕ) (piece : List ℕ) (to : Progress) : Type 0 where

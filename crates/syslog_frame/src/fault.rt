@@ -24,6 +24,20 @@ pub enum ScanFault {
     StreamTooLong,
 }
 
+/// Why a growing scanner took nothing of a piece.
+#[derive(Clone, Copy, Debug, PartialEq, Eq, Error)]
+pub enum GrowFault {
+    /// A bad count was released: nothing more can be read.
+    #[error("the stream held a bad count")]
+    Failed,
+    /// The piece reaches past `POSITION_MAX`.
+    #[error("the stream is too long")]
+    StreamTooLong,
+    /// Room for octets of the frame could not be allocated.
+    #[error("out of memory")]
+    Memory,
+}
+
 /// Why a stream may not stop here.
 #[derive(Clone, Copy, Debug, PartialEq, Eq, Error)]
 pub enum EndFault {

@@ -8,17 +8,15 @@ ghost use Rattle.syslog_frame.specs.Ready.{IsEnd, IsReady, ImpliedOf};
 ghost use Rattle.syslog_frame.specs.Reads.{IsReadyBehind, Reads, ReadsOn, StopsBehind};
 ghost use Rattle.syslog_frame.specs.Scan.{HasBadCount, HasFrame, HasReady};
 ghost use Rattle.syslog_frame.specs.Scan.{IsFailed, IsReading, Stands};
-ghost use Rattle.syslog_frame.specs.State.{phase_of};
 ghost use Rattle.syslog_frame.specs.Takes.{Takes};
 ghost use Rattle.syslog_frame.specs.declared.framing.Framing.{Framing};
 
-use crate::fault::{EndFault, ScanFault, StartFault};
-use crate::frame_ref::{FrameRef, borrowed_frame};
+use crate::fault::{EndFault, GrowFault, ScanFault, StartFault};
+use crate::frame_ref::FrameRef;
 use crate::framing::Framing;
+use crate::growing_scanner::GrowingScanner;
 use crate::limits::{FRAME_MAX, POSITION_MAX};
-use crate::phase::Phase;
 use crate::ready::Ready;
-use crate::record::take_piece;
 use std::alloc::{AllocError, Global};
 use std::marker::Model;
 
@@ -28,26 +26,18 @@ use std::marker::Model;
 /// takes memory.
 #[derive(Drop)]
 pub struct Scanner {
-    framing: Framing,
-    position: u64,
-    start: u64,
-    phase: Phase,
-    count: u64,
-    size: u64,
-    kept: Vec<u8>,
+    scanner: GrowingScanner,
 }
 
 impl Model for Scanner {
-    ghost use Rattle.std.specs.Prelude.{◌≤◌};
     ghost use Rattle.syslog_frame.specs.Scan.{Scan};
+    ghost use Rattle.std.specs.Prelude.{◌≡◌, true};
 
     ghost Value = { Scan };
 
-    ghost use Rattle.syslog_frame.specs.Fields.{scan_of, IsSound};
+    ghost view = { λ s. s.scanner };
 
-    ghost view = { scan_of };
-
-    ghost invariant = { IsSound };
+    ghost invariant = { λ s. s.scanner.reserved ≡ true };
 }
 
 impl Scanner {
@@ -57,7 +47,11 @@ impl Scanner {
         ensures stands { IfOk result (λ s. Stands FRAME_MAX s framing 0 [] × IsReading s) }
         ensures reads { IfOk result (λ s. Reads FRAME_MAX s framing 0 [] [] []) }
     {
-        Scanner::starting(alloc, framing, 0)
+        match GrowingScanner::reserved(alloc, framing, 0) {
+            Ok(scanner) => Ok(Scanner { scanner }),
+            Err(StartFault::Memory) => Err(AllocError),
+            Err(StartFault::PositionTooLarge) => unreachable!(),
+        }
     }
 
     /// A scanner before the first octet of a stream that begins at a position, in octets. The
@@ -67,27 +61,8 @@ impl Scanner {
         ensures reads { IfOk result (λ s. Reads FRAME_MAX s framing position [] [] []) }
         ensures too_large { (result ≡ Err StartFault.PositionTooLarge) ↔ (POSITION_MAX < position) }
     {
-        if position > POSITION_MAX {
-            return Err(StartFault::PositionTooLarge);
-        }
-        Scanner::starting(alloc, framing, position).map_err(|_| StartFault::Memory)
-    }
-
-    fn starting(alloc: Global, framing: Framing, position: u64) -> Result<Scanner, AllocError>
-        requires { position ≤ POSITION_MAX }
-        ensures stands { IfOk result (λ s. Stands FRAME_MAX s framing position [] × IsReading s) }
-        ensures reads { IfOk result (λ s. Reads FRAME_MAX s framing position [] [] []) }
-    {
-        let kept = Vec::with_capacity(alloc, FRAME_MAX)?;
-        Ok(Scanner {
-            framing,
-            position,
-            start: position,
-            phase: first_phase(framing),
-            count: 0,
-            size: 0,
-            kept,
-        })
+        let scanner = GrowingScanner::reserved(alloc, framing, position)?;
+        Ok(Scanner { scanner })
     }
 
     /// The position of the next octet: that of the first plus the number of octets taken since.
@@ -95,7 +70,7 @@ impl Scanner {
         ensures value { result ≡ self.now.position }
         ensures bound { result ≤ POSITION_MAX }
     {
-        self.position
+        self.scanner.position()
     }
 
     /// Takes octets, at most up to the end of the current frame, and returns how many. While
@@ -129,27 +104,11 @@ impl Scanner {
             → Reads FRAME_MAX self.old kind first octets frames rest → ¬ (HasBadCount self.old)
             → ReadsOn FRAME_MAX self.new kind first octets frames rest piece.now used) }
     {
-        match self.phase {
-            Phase::Failed => Err(ScanFault::Failed),
-            Phase::Ended | Phase::BadCount => Ok(0),
-            Phase::Counting | Phase::Inside => {
-                if piece.len() as u64 > POSITION_MAX - self.position {
-                    return Err(ScanFault::StreamTooLong);
-                }
-                let taken = take_piece(
-                    self.framing,
-                    self.phase,
-                    &mut self.kept,
-                    self.count,
-                    self.size,
-                    piece,
-                );
-                self.phase = taken.phase;
-                self.count = taken.count;
-                self.size = taken.size;
-                self.position += taken.used as u64;
-                Ok(taken.used)
-            }
+        match self.scanner.push(piece) {
+            Ok(used) => Ok(used),
+            Err(GrowFault::Failed) => Err(ScanFault::Failed),
+            Err(GrowFault::StreamTooLong) => Err(ScanFault::StreamTooLong),
+            Err(GrowFault::Memory) => unreachable!(),
         }
     }
 
@@ -179,24 +138,7 @@ impl Scanner {
         // What else is left.
         ensures same { IsNone result → self.new ≡ self.old }
     {
-        match self.phase {
-            Phase::Failed | Phase::Ended | Phase::BadCount => None,
-            Phase::Counting | Phase::Inside => {
-                if self.start != self.position {
-                    return None;
-                }
-                if POSITION_MAX - self.position < piece.len() as u64 {
-                    return None;
-                }
-                let Some(borrowed) = borrowed_frame(self.framing, piece) else {
-                    return None;
-                };
-                let behind = self.position + borrowed.used as u64;
-                self.position = behind;
-                self.start = behind;
-                Some(borrowed)
-            }
-        }
+        self.scanner.next_borrowed(piece)
     }
 
     /// What is ready: a frame whose last octet was taken, or a bad count.
@@ -210,17 +152,7 @@ impl Scanner {
             → Reads FRAME_MAX self.now kind first octets frames rest
             → IsReadyBehind FRAME_MAX kind first octets frames rest result }
     {
-        match self.phase {
-            Phase::Ended => {
-                if self.size <= FRAME_MAX as u64 {
-                    Some(Ready::Frame(&self.kept))
-                } else {
-                    Some(Ready::TooLong)
-                }
-            }
-            Phase::BadCount => Some(Ready::BadCount { at: self.position }),
-            _ => None,
-        }
+        self.scanner.ready()
     }
 
     /// Drops what is ready, and returns whether something was. After a frame the next one begins;
@@ -239,21 +171,7 @@ impl Scanner {
             → Reads FRAME_MAX self.old kind first octets frames rest → Frame kind f rest
             → Reads FRAME_MAX self.new kind first octets (frames ++ f ∷ []) [] }
     {
-        match self.phase {
-            Phase::Ended => {
-                self.kept.clear();
-                self.phase = first_phase(self.framing);
-                self.count = 0;
-                self.size = 0;
-                self.start = self.position;
-                true
-            }
-            Phase::BadCount => {
-                self.phase = Phase::Failed;
-                true
-            }
-            _ => false,
-        }
+        self.scanner.release()
     }
 
     /// Whether the stream may stop here. The refusals come in the order of the variants of
@@ -268,25 +186,6 @@ impl Scanner {
             → Reads FRAME_MAX self.now kind first octets frames rest
             → StopsBehind self.now kind first octets frames rest result }
     {
-        match self.phase {
-            Phase::Failed => Err(EndFault::Failed),
-            Phase::Ended | Phase::BadCount => Err(EndFault::Unreleased),
-            Phase::Counting | Phase::Inside => {
-                if self.start == self.position {
-                    Ok(())
-                } else {
-                    Err(EndFault::Unterminated { start: self.start })
-                }
-            }
-        }
-    }
-}
-
-fn first_phase(framing: Framing) -> Phase
-    ensures { result ≡ phase_of framing }
-{
-    match framing {
-        Framing::Counted => Phase::Counting,
-        Framing::Lf => Phase::Inside,
+        self.scanner.end()
     }
 }

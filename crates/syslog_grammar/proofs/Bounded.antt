@@ -26,10 +26,10 @@ use Rattle.syslog_grammar.proofs.CanonicalParses.{special}
 
 -- ---- values
 
-abbrev len : List ℕ → ℕ
+abbrev pub len : List ℕ → ℕ
 len b = length b
 
-together : (x y b : List ℕ) → b ≡ x ++ y → len b ≡ len x + len y
+pub together : (x y b : List ℕ) → b ≡ x ++ y → len b ≡ len x + len y
 together x y b e = ap length e ∙ length-append x y
 
 escaped_join : (x y : List ℕ) → len (escaped (x ++ y)) ≡ len (escaped x) + len (escaped y)
@@ -251,7 +251,7 @@ header_bound h b c (
 
 -- ---- the message
 
-message_bound : (m : MessageParts) (b : List ℕ) → Message m b → len (message_form m) ≤ len b + 1
+pub message_bound : (m : MessageParts) (b : List ℕ) → Message m b → len (message_form m) ≤ len b + 1
 message_bound (AnyOctets []) b h = omega arith
 message_bound (AnyOctets (x ∷ octets)) b h = omega (arith, ap length h.2)
 message_bound (Utf8Text text) b (t, (x, y, e, h, k)) = omega (arith, together x y b e, ap length h, ap length k)

@@ -7,14 +7,13 @@ use Rattle.std.proofs.lemmas.List.{length-append, append_cancel_right}
 use Rattle.std.proofs.Math.Seq.{take-append_seam}
 use Rattle.octet_language.specs.Language.{Language, AnyOf}
 use Rattle.octet_language.specs.Reading.{Follows}
-use Rattle.syslog_value.specs.Parts.{ElementParts, Parts, IsInstant}
+use Rattle.syslog_value.specs.Parts.{Parts, IsInstant}
 use Rattle.syslog_fields.specs.Canonical.{priority_version_form, structured_data_form, message_form, SpacedWord}
 use Rattle.syslog_fields.specs.Canonical.{HeaderForm, Canonical}
 use Rattle.syslog_fields.specs.Dates.{time_of}
 use Rattle.syslog_fields.specs.Grammar.{HeaderParts, Header, Priority, Version, Spaced, Nilable, Word}
 use Rattle.syslog_fields.specs.Grammar.{StructuredDataText, MessagePart}
 use Rattle.syslog_fields.specs.Time.{TimeText, instant}
-use Rattle.syslog_fields.specs.declared.timestamp.Timestamp.{Timestamp}
 use Rattle.syslog_fields.proofs.Fractions.{AnyTime, IsPrefixFree-nilable_time}
 use Rattle.syslog_reading.specs.Faults.{AreDistinct}
 use Rattle.syslog_reading.specs.Fields.{header_parts}
@@ -31,7 +30,7 @@ use Rattle.syslog_reading.proofs.Headers.{IsPrefixFree-header, IsPrefixFree-pref
 use Rattle.syslog_reading.proofs.Laws.{header_same, same_parts}
 use Rattle.syslog_reading.proofs.OneMeaning.{by_prefix, data_same, tail_same, tail_prefix}
 use Rattle.syslog_reading.proofs.Valid.{parsed_valid}
-use Rattle.syslog_reading.proofs.Viewing.{parts_of, parsed_by, in_range_by, out_of_range}
+use Rattle.syslog_reading.proofs.Viewing.{parts_of, parsed_by, in_range_by, out_of_range, same_instant}
 use Rattle.syslog_grammar.specs.ElementOrders.{IsInOrder}
 use Rattle.syslog_grammar.specs.Unsorted.{IsUnsortedRecord, IsFormOf, HoldsForm}
 use Rattle.syslog_grammar.specs.declared.canonical_form.ElementOrder.{ElementOrder}
@@ -41,6 +40,7 @@ use Rattle.syslog_grammar.proofs.CanonicalParses.{named, header_parsed, data_par
 use Rattle.syslog_grammar.proofs.CanonicalParses.{timed}
 use Rattle.syslog_grammar.proofs.DataForms.{DataAnswer}
 use Rattle.syslog_grammar.proofs.TimeForms.{TimeSpace, Begins, any_time}
+use Rattle.syslog_reading.proofs.ReadData.{one_data}
 
 -- ---- the time in a header
 
@@ -117,11 +117,6 @@ time_at h header rest from b (
 
 -- ---- a spelling in its form
 
-instant_same : (time : Option Timestamp) → option_map (λ s. instant (time_of s)) time
-    ≡ option_map instant (option_map time_of time)
-instant_same None = refl
-instant_same (Some t) = refl
-
 -- the instant, what is at the time, the structured data and the tail
 pub record InForm (order : ElementOrder) (b : List ℕ) (s : Parsed) (k : IsParsed b s) : Type 0 where
   pub range : IfSome (option_map (λ t. instant (time_of t)) s.fields.time) IsInstant
@@ -163,7 +158,7 @@ is_canonical order b s k f =
     let h = header_parts s.fields in
     let t = time_at h k.fields.0 k.rest k.time.0 b k.fields.2 k.fields.1 k.time.1 in
     let form : TimeSpace (option_map instant h.time) f.time.1.0 =
-    subst (λ (i : Option ℤ). TimeSpace i f.time.1.0) (instant_same s.fields.time) f.time.1.2 in
+    subst (λ (i : Option ℤ). TimeSpace i f.time.1.0) (same_instant s.fields.time) f.time.1.2 in
     let same : t.time ≡ f.time.1.0 = IsPrefixFree-nilable_time t.time (t.others ++ k.rest) f.time.1.0 f.time.0
     (h.time, t.parse) (any_time (option_map instant h.time) f.time.1.0 form) (sym t.parts ∙ f.time.1.1) in (
       k.fields.0,
@@ -233,7 +228,7 @@ of_canonical order b s k r (
     let text : d ≡ s.«structured_data».now = append_cancel_right d s.«structured_data».now t
     (sym o ∙ headers.1 ∙ k.parts ∙ ap (λ (u : List ℕ). s.«structured_data».now ++ u) (sym both.1)) in
     let instants : r.time ≡ option_map (λ c. instant (time_of c)) s.fields.time =
-    name.same ∙ same.time ∙ sym (instant_same s.fields.time) in
+    name.same ∙ same.time ∙ sym (same_instant s.fields.time) in
     let whole : b ≡ prefix ++ (spaced ++ (words ++ y)) =
     e ∙ ap (λ (u : List ℕ). u ++ y) (f ∙ ap (λ (u : List ℕ). prefix ++ u) i) ∙ append_assoc prefix (spaced ++ words) y
     ∙ ap (λ (u : List ℕ). prefix ++ u) (append_assoc spaced words y) in
@@ -364,11 +359,6 @@ form_whole order b from s t d r k range e time t_is elements d_is message_part r
 
 abbrev IsUnsorted : List ℕ → Type 0
 IsUnsorted b = (r : Parts ℤ) × IsUnsortedRecord r × Canonical r b
-
--- one text of structured data has one list of elements
-one_data : (es fs : List ElementParts) (text : List ℕ) → StructuredDataText es text → StructuredDataText fs text
-    → es ≡ fs
-one_data es fs text h k = (data_same es fs text [] text [] h k tt tt refl).0
 
 -- two records of one canonical form have the same elements
 same_elements : (b : List ℕ) (r q : Parts ℤ) → HasRecordParts r → Canonical r b → HasRecordParts q → Canonical q b

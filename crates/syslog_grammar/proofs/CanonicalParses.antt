@@ -6,12 +6,11 @@ use Rattle.std.specs.List.{AllByRecursion, flat_map}
 use Rattle.std.proofs.lemmas.Grind.{flat_map-append}
 use Rattle.std.proofs.lemmas.List.Sorted.{IsPermutation-refl}
 use Rattle.octet_language.specs.Language.{Language, Only, ◌⋅◌, Each}
-use Rattle.syslog_value.proofs.CivilTimes.{civil-injective}
 use Rattle.syslog_value.specs.Instants.{IsCivil}
 use Rattle.syslog_value.specs.Parts.{ParamParts, ElementParts, MessageParts, AnyOctets, Utf8Text, Parts, IsWord}
 use Rattle.syslog_value.specs.Parts.{IsParam, IsElement, IsMessage, IsInstant, IsRecord, bom}
 use Rattle.syslog_value.specs.declared.civil.Civil.{Civil}
-use Rattle.syslog_fields.specs.Canonical.{civil_text, TimeForm, priority_version_form, word_form, needs_escape, escaped}
+use Rattle.syslog_fields.specs.Canonical.{civil_text, TimeForm, priority_version_form, needs_escape, escaped}
 use Rattle.syslog_fields.specs.Canonical.{param_form, element_form, structured_data_form, message_form, SpacedWord}
 use Rattle.syslog_fields.specs.Canonical.{HeaderForm, Canonical}
 use Rattle.syslog_fields.specs.Grammar.{Header, Spaced, Nilable, Word, Param, Element, StructuredDataText, MessagePart}
@@ -27,7 +26,8 @@ use Rattle.syslog_reading.specs.Faults.{IsInRange}
 use Rattle.syslog_reading.specs.WellFormed.{HasRecordParts, WellFormed}
 use Rattle.syslog_reading.proofs.ById.{distinct_by_id}
 use Rattle.syslog_reading.proofs.Laws.{one_meaning}
-use Rattle.syslog_reading.proofs.Props.{once}
+use Rattle.syslog_fields.proofs.CanonicalTexts.{time_once, word_once}
+use Rattle.octet_language.proofs.Sequence.{once, only_once}
 
 -- ---- the header
 
@@ -381,17 +381,6 @@ canonical_well_formed r b k h =
     )
 
 -- ---- one canonical text
-
-time_once : (i : Option ℤ) (b c : List ℕ) → TimeForm i b → TimeForm i c → b ≡ c
-time_once None b c h k = h ∙ sym k
-time_once (Some i) b c (u, uc, ui, ub) (v, vc, vi, vb) =
-    ub ∙ ap civil_text (civil-injective u v uc vc (ui ∙ sym vi)) ∙ sym vb
-
-only_once : (a s t : List ℕ) → Only a s → Only a t → s ≡ t
-only_once a s t h k = h ∙ sym k
-
-word_once : (w : Option (List ℕ)) (s t : List ℕ) → SpacedWord w s → SpacedWord w t → s ≡ t
-word_once w s t h k = once (Only (word_form w)) (Only (32 ∷ [])) s t (only_once (word_form w)) (only_once (32 ∷ [])) h k
 
 pub canonical_once : (r : Parts ℤ) (b c : List ℕ) → Canonical r b → Canonical r c → b ≡ c
 unfolding HeaderForm

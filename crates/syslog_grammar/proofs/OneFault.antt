@@ -3,7 +3,7 @@ use Rattle.std.proofs.Common.{◌≡◌, ℕ, zero, suc, ◌+◌, ◌<◌, ◌�
 use Rattle.std.proofs.Common.{◌∙◌, arith, inl, inr, ◌⊎◌}
 use Rattle.std.specs.Prelude.{◌==◌, cond}
 use Rattle.std.proofs.lemmas.List.Sums.{sum_by-append}
-use Rattle.octet_language.specs.Language.{Language, Only, ◌⋅◌, AnyOf, Each, IsFaultOffset, IsPrefixFree}
+use Rattle.octet_language.specs.Language.{Language, Only, ◌⋅◌, AnyOf, Each, IsPrefixFree}
 use Rattle.octet_language.proofs.Chain.{IsPrefixFree-only}
 use Rattle.octet_language.proofs.Sequence.{IsPrefixFree-then}
 use Rattle.syslog_value.specs.Parts.{ElementParts}
@@ -18,6 +18,7 @@ use Rattle.syslog_reading.specs.declared.fault.Fault.TheVariants.{Syntax, Instan
 use Rattle.syslog_reading.proofs.Excluded.{not_distinct, same_range}
 use Rattle.syslog_reading.proofs.Headers.{IsPrefixFree-header}
 use Rattle.syslog_reading.proofs.Laws.{same_parts}
+use Rattle.octet_language.proofs.FaultOffset.{IsFaultOffset-unique}
 
 -- ---- the octets that count
 
@@ -143,12 +144,6 @@ one_field s f g h k = sym (numbered_back f)
 
 -- ---- the offset
 
-one_offset : (L : Language) (b : List ℕ) (m n : ℕ) → IsFaultOffset L b m → IsFaultOffset L b n → m ≡ n
-one_offset L b m n h k =
-    let below : m ≤ n = k.longest m h.within h.begins in
-    let above : n ≤ m = h.longest n k.within k.begins in
-    omega arith
-
 one_end : (L : Language) (b : List ℕ) (m n : ℕ) → IsPrefixFree L → PrefixEnds L b m → PrefixEnds L b n → m ≡ n
 one_end L b m n one (x, y, e, h, i) (u, v, f, k, j) = i ∙ ap length (one x y u v h k (sym e ∙ f)) ∙ sym j
 
@@ -200,7 +195,7 @@ one_repeated es before others r q =
 
 pub one_fault : (b : List ℕ) (f g : Fault) → FaultOf b f → FaultOf b g → f ≡ g
 one_fault b (Syntax f m) (Syntax g n) (none, h, i) (none', k, j) =
-    let offset = one_offset (AnyOf SyslogMsg) b m n h k in
+    let offset = IsFaultOffset-unique (AnyOf SyslogMsg) b m n h k in
     let same = one_field (take n b) f g (subst (λ (o : ℕ). EndsIn (take o b) f) offset i) j in
     ap (λ (o : ℕ). Syntax f o) offset ∙ ap (λ (s : Field). Syntax s n) same
 one_fault b (Syntax f m) (InstantRange n) (none, offset, ends) (p, h, out, offset') = absurd (none (p, h))

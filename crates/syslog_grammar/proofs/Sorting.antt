@@ -1,6 +1,6 @@
 -- What stands for elements, sorted, and the elements written.
 use Rattle.std.proofs.Common.{◌≡◌, ℕ, zero, suc, ◌+◌, ◌-◌, ◌<◌, List, [], ◌∷◌, ◌++◌, length, take, drop, set, get_or}
-use Rattle.std.proofs.Common.{refl, sym, ap, subst, ◌∙◌, append_assoc, add-one, arith, Bor}
+use Rattle.std.proofs.Common.{refl, sym, ap, subst, ◌∙◌, append_assoc, arith, Bor}
 use Rattle.std.specs.Prelude.{Option, Some, None, Bool, true, false, IsTrue, Result, Ok, Err, ⊤}
 use Rattle.std.specs.List.{flat_map, swap}
 use Rattle.std.specs.List.Sorted.{IsPermutation}
@@ -276,15 +276,6 @@ written_end {K} R all rest met old out e w = (w.done, λ es h. go es (w.is es h)
         × (IsRisingFrom met (ids_of todo) → IsById es) → (w.done ≡ flat_map element_form es) × IsById es
     go es ([], k, g, rising) = (sym (g ∙ append-nil w.done), rising tt)
     go es (d ∷ todo, k, g, rising) = absurd (subst (Pairs R (d ∷ todo)) e k)
-
-key_left_suc : {K : Type 0} (ks : List K) (i : ℕ) (d : K) → i < length ks → drop i ks ≡ get_or ks i d ∷ drop (suc i) ks
-key_left_suc [] i d less = absurd (omega arith)
-key_left_suc (k ∷ ks) zero d less = refl
-key_left_suc (k ∷ ks) (suc i) d less = key_left_suc ks i d (omega arith)
-
--- what is at an index comes first in what is left from there on
-pub key_left : {K : Type 0} (ks : List K) (i : ℕ) (d : K) → i < length ks → drop i ks ≡ get_or ks i d ∷ drop (i + 1) ks
-key_left ks i d less = rw add-one (key_left_suc ks i d less)
 
 pub none_left : {K : Type 0} (ks : List K) → drop (length ks) ks ≡ []
 none_left [] = refl

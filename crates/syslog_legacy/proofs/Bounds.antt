@@ -1,13 +1,13 @@
 -- The canonical octets of a packet's record are at most 64 more than the packet's.
-use Rattle.std.proofs.Common.{◌≡◌, ℕ, ◌+◌, ◌≤◌, List, [], ◌∷◌, ◌++◌, length, sym, ap, subst, ◌∙◌, arith, inl, inr}
+use Rattle.std.proofs.Common.{◌≡◌, ℕ, ◌+◌, ◌≤◌, List, [], ◌∷◌, length, sym, ap, subst, arith, inl, inr}
 use Rattle.std.specs.Prelude.{ℤ, Option, Some, None, decimal}
 use Rattle.std.proofs.lemmas.List.{length-append}
 use Rattle.octet_language.specs.Reading.{Follows}
 use Rattle.octet_language.proofs.Decimal.{next_digit, one_digit}
-use Rattle.syslog_value.specs.Parts.{MessageParts, AnyOctets, Utf8Text, Parts}
-use Rattle.syslog_fields.specs.Canonical.{Canonical, HeaderForm, SpacedWord, TimeForm, message_form, word_form}
+use Rattle.syslog_value.specs.Parts.{MessageParts, Parts}
+use Rattle.syslog_fields.specs.Canonical.{Canonical, HeaderForm, SpacedWord, TimeForm, word_form}
 use Rattle.syslog_fields.specs.Grammar.{Message, Priority}
-use Rattle.syslog_grammar.proofs.Bounded.{civil_len}
+use Rattle.syslog_grammar.proofs.Bounded.{civil_len, len, message_bound, together}
 use Rattle.syslog_legacy.specs.declared.clock.Dialect.{Dialect}
 use Rattle.syslog_legacy.specs.declared.clock.Dialect.TheVariants.{Bsd, Wide}
 use Rattle.syslog_legacy.specs.declared.clock.LegacyClock.{LegacyClock}
@@ -17,12 +17,6 @@ use Rattle.syslog_legacy.specs.Splits.{FrontParts, HostPart, PriorityPart, Split
 use Rattle.syslog_legacy.specs.Tags.{BehindSpace, ProcText, Tag, TagParts}
 use Rattle.syslog_legacy.proofs.Parts.{Ends}
 use Rattle.syslog_legacy.proofs.WideTimes.{wide_time_space}
-
-abbrev len : List ℕ → ℕ
-len b = length b
-
-together : (x y b : List ℕ) → b ≡ x ++ y → len b ≡ len x + len y
-together x y b e = ap length e ∙ length-append x y
 
 -- ---- what a record's header takes
 
@@ -191,11 +185,6 @@ front_taken clock b f m (inr (v, r, p, inr (t, s, q, inr (host, u, k, inr (tag, 
       tag_part_len clock.dialect tag u w g,
     )
 
-message_len : (m : MessageParts) (b : List ℕ) → Message m b → len (message_form m) ≤ len b + 1
-message_len (AnyOctets []) b h = omega arith
-message_len (AnyOctets (x ∷ octets)) b h = omega (arith, ap length h.2)
-message_len (Utf8Text text) b (t, (x, y, e, h, k)) = omega (arith, together x y b e, ap length h, ap length k)
-
 -- the canonical octets of a record of these parts
 form_len : (f : FrontParts) (message : MessageParts) (octets c : List ℕ) → Message message octets
     → Canonical (legacy_parts f message) c → len c ≤ taken f octets + 44
@@ -207,7 +196,7 @@ form_len f message octets c h (u, v, g, i, (w, z, j, o, q)) =
       ap length o,
       ap length q,
       header_len f.priority f.time f.hostname f.app_name f.proc_id u i,
-      message_len message octets h,
+      message_bound message octets h,
     )
 
 pub legacy_bounded : (clock : LegacyClock) (r : Parts ℤ) (b c : List ℕ) (packet entry : ℕ) → IsRead clock b r

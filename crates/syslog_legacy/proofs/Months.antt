@@ -2,14 +2,15 @@
 use Rattle.std.proofs.Common.{◌≡◌, ℕ, zero, suc, ◌+◌, ◌-◌, ◌*◌, ◌/◌, ◌%◌, ◌≤◌, List, [], ◌∷◌, ◌++◌, length, refl, sym}
 use Rattle.std.proofs.Common.{ap, subst, ◌∙◌, arith, inl, inr, append_assoc, get_or, take, drop}
 use Rattle.std.specs.Prelude.{codes, ◌==◌, if◌then◌else◌}
-use Rattle.std.proofs.lemmas.Bool.Decides.{nat_tests}
-use Rattle.std.proofs.lemmas.List.{append_cancel_left, length-append, take_all}
+use Rattle.std.proofs.lemmas.List.{length-append, take_all}
 use Rattle.octet_language.specs.Language.{AnyOf, IsPrefixFree, NoPrefix}
 use Rattle.octet_language.specs.Reading.{Follows}
-use Rattle.octet_language.proofs.Lists.{heads, tails, same_prefix}
+use Rattle.octet_language.proofs.Lists.{heads, tails, by_length}
 use Rattle.syslog_value.specs.Calendar.{month_length}
 use Rattle.syslog_fields.proofs.Separated.{IsPrefixFree-length}
 use Rattle.syslog_legacy.specs.Timestamps.{DateText, DayText, MonthText, month_name}
+use Rattle.syslog_value.proofs.DayNumbers.{month_most}
+use Rattle.syslog_fields.proofs.Times.{pair_ap}
 
 -- ---- months
 
@@ -82,11 +83,6 @@ day_one last d e b small (inr (l, h, n, f)) (inr (m, i, o, g)) =
 
 -- ---- dates
 
-by_length : (f g s t : List ℕ) → length f ≡ length g → f ++ s ≡ g ++ t → (f ≡ g) × (s ≡ t)
-by_length f g s t n e =
-    let same = same_prefix f g s t n e in
-    (same, append_cancel_left f s t (e ∙ ap (λ (u : List ℕ). u ++ t) (sym same)))
-
 -- a date by its texts
 pub record IsDateOf (year : ℕ) (d : ℕ × ℕ) (b : List ℕ) : Type 0 where
   pub month : List ℕ
@@ -126,12 +122,6 @@ same_texts m n d e s t lm ln ld le h =
     let second = by_length d e s t (ld ∙ sym le) (tails 32 32 (d ++ s) (e ++ t) first.1) in
     (first.0, second.0, second.1)
 
-month_most : (y m : ℕ) → month_length y m ≤ 31
-month_most y m = grind (arith, nat_tests)
-
-same_date : (m n d e : ℕ) → m ≡ n → d ≡ e → (let p : ℕ × ℕ = (m, d) in let q : ℕ × ℕ = (n, e) in p ≡ q)
-same_date m n d e h k = rw (h, k) refl
-
 pub date_one : (year : ℕ) (d e : ℕ × ℕ) (b : List ℕ) → DateText year d b → DateText year e b → d ≡ e
 date_one year d e b h k =
     let p = date_of_text year d b h in
@@ -142,7 +132,7 @@ date_one year d e b h k =
     let day = day_one (month_length year e.0) d.1 e.1 q.day (month_most year e.0)
     (subst (λ (m : ℕ). DayText (month_length year m) d.1 q.day) month
     (subst (DayText (month_length year d.0) d.1) same.1 p.is_day)) q.is_day in
-    same_date d.0 e.0 d.1 e.1 month day
+    pair_ap d.0 e.0 d.1 e.1 month day
 
 date_length : (year : ℕ) (b : List ℕ) → AnyOf (DateText year) b → length b ≡ 7
 date_length year b (d, h) =

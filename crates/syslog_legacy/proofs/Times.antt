@@ -11,7 +11,7 @@ use Rattle.syslog_value.specs.Instants.{IsCivil, instant_of}
 use Rattle.syslog_fields.specs.Dates.{Clock}
 use Rattle.syslog_fields.specs.Time.{ClockText, padded}
 use Rattle.syslog_reading.proofs.OneMeaning.{by_prefix}
-use Rattle.syslog_fields.proofs.Times.{IsPrefixFree-clock}
+use Rattle.syslog_fields.proofs.Times.{IsPrefixFree-clock, two_shown}
 use Rattle.syslog_legacy.specs.declared.clock.LegacyClock.{LegacyClock}
 use Rattle.syslog_legacy.specs.Clocks.{IsYear}
 use Rattle.syslog_legacy.specs.Timestamps.{DateText, DayText, TimestampText}
@@ -106,9 +106,6 @@ clock_text : (h m s : ℕ) (b : List ℕ) → ClockText h m s b → b ≡ padded
 clock_text h m s b (a, c, g, (hl, hh, he), (v, w, i, k, (p, q, j, (ml, mh, me), (r, t, l, n, (sl, sh, se))))) =
     g ∙ rw (he, i, k, j, me, l, n, se) refl
 
-two_same : (n m : ℕ) → n ≤ 99 → m ≤ 99 → 48 + n / 10 % 10 ≡ 48 + m / 10 % 10 → 48 + n % 10 ≡ 48 + m % 10 → n ≡ m
-two_same n m h k a b = omega arith
-
 pub clock_one : (h m s h' m' s' : ℕ) (b : List ℕ) → ClockText h m s b → ClockText h' m' s' b
     → (h ≡ h') × (m ≡ m') × (s ≡ s')
 clock_one h m s h' m' s' b k l =
@@ -123,9 +120,9 @@ clock_one h m s h' m' s' b k l =
     let b2 : 48 + m % 10 ≡ 48 + m' % 10 = cc in
     let c1 : 48 + s / 10 % 10 ≡ 48 + s' / 10 % 10 = cc in
     let c2 : 48 + s % 10 ≡ 48 + s' % 10 = cc in (
-      two_same h h' (omega (arith, i.0)) (omega (arith, j.0)) a1 a2,
-      two_same m m' (omega (arith, i.1)) (omega (arith, j.1)) b1 b2,
-      two_same s s' (omega (arith, i.2)) (omega (arith, j.2)) c1 c2,
+      two_shown h h' (omega (arith, i.0)) (omega (arith, j.0)) a1 a2,
+      two_shown m m' (omega (arith, i.1)) (omega (arith, j.1)) b1 b2,
+      two_shown s s' (omega (arith, i.2)) (omega (arith, j.2)) c1 c2,
     )
 
 instant_same : (c d : Civil) (o : ℤ) → c.year ≡ d.year → c.month ≡ d.month → c.day ≡ d.day → c.hour ≡ d.hour

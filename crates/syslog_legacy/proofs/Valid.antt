@@ -4,11 +4,9 @@ use Rattle.std.specs.Prelude.{ℤ, Option, Some, None, IfSome}
 use Rattle.std.proofs.Math.Logic.{∥∥₁_elim}
 use Rattle.octet_language.proofs.Lists.{AllByRecursion-weaker}
 use Rattle.syslog_value.specs.Instants.{IsOffset}
-use Rattle.syslog_value.specs.Parts.{IsInstant, IsMessage, IsPrintable, IsRecord, IsWord, MessageParts, AnyOctets}
-use Rattle.syslog_value.specs.Parts.{Utf8Text, Parts}
-use Rattle.syslog_fields.specs.Grammar.{Message}
+use Rattle.syslog_value.specs.Parts.{IsInstant, IsPrintable, IsRecord, IsWord}
+use Rattle.syslog_value.specs.Parts.{Parts}
 use Rattle.syslog_reading.proofs.Props.{record_prop}
-use Rattle.syslog_fields.proofs.Utf8Text.{IsUtf8-text}
 use Rattle.syslog_legacy.specs.declared.clock.Dialect.{Dialect}
 use Rattle.syslog_legacy.specs.declared.clock.Dialect.TheVariants.{Bsd, Wide}
 use Rattle.syslog_legacy.specs.declared.clock.LegacyClock.{LegacyClock}
@@ -19,6 +17,7 @@ use Rattle.syslog_legacy.specs.Splits.{FrontParts, HostPart, PriorityPart, Split
 use Rattle.syslog_legacy.specs.Tags.{IsProcOctet, IsTagOctet, ProcText, Tag, TagParts}
 use Rattle.syslog_value.proofs.InnerYears.{in_range}
 use Rattle.syslog_legacy.proofs.Times.{civil_valid}
+use Rattle.syslog_reading.proofs.Valid.{valid_message}
 
 -- ---- words
 
@@ -133,10 +132,6 @@ front_valid clock b f m year offset (inr (v, r, p, inr (t, s, q, inr (host, u, k
 
 -- ---- the record
 
-message_valid : (m : MessageParts) (b : List ℕ) → Message m b → IsMessage m
-message_valid (AnyOctets octets) b h = (h.0, h.1)
-message_valid (Utf8Text text) b h = IsUtf8-text text h.0
-
 pub read_valid : (clock : LegacyClock) (r : Parts ℤ) (b : List ℕ) → IsYear clock.year → IsOffset clock.offset_minutes
     → IsRead clock b r → IsRecord r
 read_valid clock r b year offset h =
@@ -152,7 +147,7 @@ read_valid clock r b year offset h =
       msg_id = tt;
       elements = tt;
       by_id = tt;
-      message = message_valid h.message h.octets h.means;
+      message = valid_message h.message h.octets h.means;
     } in
     subst IsRecord (sym h.is) valid
 

@@ -1,6 +1,6 @@
 -- What the readers of a timestamp of the wide dialect have read.
 use Rattle.std.proofs.Common.{◌≡◌, ◌≢◌, ℕ, ◌+◌, ◌*◌, ◌/◌, ◌%◌, ◌≤◌, List, [], ◌∷◌, ◌++◌, length, refl, sym, ap, subst}
-use Rattle.std.proofs.Common.{◌∙◌, inl, inr, arith, append_assoc, ℤ, ◌⊎◌}
+use Rattle.std.proofs.Common.{◌∙◌, inl, inr, arith, append_assoc, ℤ}
 use Rattle.octet_language.specs.Digits.{IsDigit}
 use Rattle.octet_language.specs.Language.{Only, ◌⋅◌, AnyOf, IfFirst, NoPrefix}
 use Rattle.octet_language.specs.Reading.{Follows}
@@ -16,10 +16,9 @@ use Rattle.syslog_value.specs.Parts.{IsInstant}
 use Rattle.syslog_fields.specs.Dates.{Clock, Date}
 use Rattle.syslog_fields.specs.Time.{CivilTime, ClockText, DateText, FractionText, OffsetText, TimeText, Two, YearText}
 use Rattle.syslog_fields.specs.Time.{ZoneText, padded}
-use Rattle.syslog_fields.proofs.Fractions.{AnyZone, IsSign, zone_prefix, zone_some}
-use Rattle.syslog_fields.proofs.Separated.{OneValue}
+use Rattle.syslog_fields.proofs.Fractions.{AnyZone, IsSign, zone_prefix, zone_some, zone_cases}
 use Rattle.syslog_fields.proofs.Times.{IsPrefixFree-two, IsPrefixFree-year, OneValue-year}
-use Rattle.syslog_fields.proofs.Times.{IsPrefixFree-date}
+use Rattle.syslog_fields.proofs.Times.{IsPrefixFree-date, OneValue-two, four_back}
 use Rattle.syslog_legacy.specs.declared.clock.LegacyClock.{LegacyClock}
 use Rattle.syslog_legacy.specs.Parts.{Lacks, Optional, Without}
 use Rattle.syslog_legacy.specs.WideTimes.{BehindMark, MonthDay, NamedDate, NamedTime, Names, Point}
@@ -31,9 +30,6 @@ use Rattle.syslog_legacy.proofs.WideTimes.{clock_part_one, mark_one, named_date_
 use Rattle.syslog_legacy.proofs.WideTimes.{point_one, point_run, spaced_one, stamp_one, year_there}
 
 -- ---- years
-
-four_back : (a b c d a' b' c' d' : ℕ) → a ≡ a' → b ≡ b' → c ≡ c' → d ≡ d' → a ∷ b ∷ c ∷ d ∷ [] ≡ a' ∷ b' ∷ c' ∷ d' ∷ []
-four_back a b c d a' b' c' d' e f g h = cc
 
 year_halves : (s : List ℕ) → AnyOf YearText s → (AnyOf (Two 0 99) ⋅ AnyOf (Two 0 99)) s
 year_halves s (y, (h, e)) = (
@@ -134,15 +130,8 @@ date_parts d b end (t, e, (x1, y1, e1, h1, (x2, y2, e2, h2, (x3, y3, e3, h3, (x4
   is_day = (y4, refl, h5);
 }
 
-two_value : (low high : ℕ) → high ≤ 99 → OneValue (Two low high)
-two_value low high small v w s (l, h, e) (m, i, f) =
-    let same : padded 2 v ≡ padded 2 w = sym e ∙ f in
-    let a : 48 + v / 10 % 10 ≡ 48 + w / 10 % 10 = cc in
-    let b : 48 + v % 10 ≡ 48 + w % 10 = cc in
-    omega arith
-
 pub two_one : (low high : ℕ) → high ≤ 99 → OnePart (λ n. Follows (Two low high n))
-two_one low high small = follows_one (Two low high) (IsPrefixFree-two low high) (two_value low high small)
+two_one low high small = follows_one (Two low high) (IsPrefixFree-two low high) (OneValue-two low high small)
 
 pub year_one : OnePart (λ y. Follows (YearText y))
 year_one = follows_one YearText IsPrefixFree-year OneValue-year
@@ -241,12 +230,6 @@ offset_read b rest after end h m n f e g is =
     let k = Follows-then (Two 0 23 h) (Only (58 ∷ []) ⋅ Two 0 59 m) b rest end f
     (Follows-then (Only (58 ∷ [])) (Two 0 59 m) rest after end (58 ∷ [], e, refl) g) in
     (k.0, k.1, (h, m, is, k.2))
-
-zone_cases : (s : List ℕ) → AnyZone s → (s ≡ 90 ∷ [])
-    ⊎ ((t : List ℕ) × AnyOf OffsetText t × ((s ≡ 43 ∷ t) ⊎ (s ≡ 45 ∷ t)))
-zone_cases s (o, inl (e, f)) = inl f
-zone_cases s (o, inr (m, inl (e, (x, y, f, h, k)))) = inr (y, (m, k), inl (f ∙ ap (λ (u : List ℕ). u ++ y) h))
-zone_cases s (o, inr (m, inr (e, (x, y, f, h, k)))) = inr (y, (m, k), inr (f ∙ ap (λ (u : List ℕ). u ++ y) h))
 
 glued : (b x y s : List ℕ) → b ≡ x ++ y → x ≡ s → b ≡ s ++ y
 glued b x y s e f = e ∙ ap (λ (u : List ℕ). u ++ y) f

@@ -26,6 +26,7 @@ use Rattle.syslog_legacy.proofs.Months.{IsPrefixFree-date, date_one}
 use Rattle.syslog_legacy.proofs.Parts.{Ends, OnePart, all_ends, ends_on, follows_ends, follows_one}
 use Rattle.syslog_legacy.proofs.Parts.{optional_one, without_ends, without_one}
 use Rattle.syslog_legacy.proofs.Times.{clock_one}
+use Rattle.syslog_value.proofs.CivilTimes.{same_fields}
 
 -- ---- values of texts
 
@@ -112,18 +113,6 @@ named_date_one year b v w s t (inl h) (inr k) = absurd (year_there v b s k.0 h)
 named_date_one year b v w s t (inr h) (inl k) = absurd (year_there w b t h.0 k)
 named_date_one year b v w s t (inr h) (inr k) = day_first_one year b v w s t h.1 k.1
 
-civil_made : ℕ → ℕ → ℕ → ℕ → ℕ → ℕ → ℕ → Civil
-civil_made y m d h min s u = record { year = y; month = m; day = d; hour = h; minute = min; second = s; micros = u }
-
-civil_same : (c d : Civil) → c.year ≡ d.year → c.month ≡ d.month → c.day ≡ d.day → c.hour ≡ d.hour
-    → c.minute ≡ d.minute → c.second ≡ d.second → c.micros ≡ d.micros → c ≡ d
-unfolding civil_made
-civil_same c d year month day hour minute second micros =
-    let same : civil_made c.year c.month c.day c.hour c.minute c.second c.micros
-    ≡ civil_made d.year d.month d.day d.hour d.minute d.second d.micros =
-    rw (year, month, day, hour, minute, second, micros) refl in
-    same
-
 pub named_time_one : (year : ℕ) → OnePart (NamedTime year)
 named_time_one year b c d s t (x, y, h, i, j) (x', y', h', i', j') =
     let date = named_date_one year b (c.year, c.month, c.day) (d.year, d.month, d.day) x x' h h' in
@@ -131,7 +120,7 @@ named_time_one year b c d s t (x, y, h, i, j) (x', y', h', i', j') =
     (subst (λ (u : List ℕ). Follows (Clock (c.hour, c.minute, c.second)) u y) date.1 i) i' in
     let micros = optional_one Point 0 point_one y' c.micros d.micros s t
     (subst (λ (u : List ℕ). Optional Point 0 c.micros u s) time.1 j) j' in (
-      civil_same c d (ap (λ (p : ℕ × ℕ × ℕ). p.0) date.0) (ap (λ (p : ℕ × ℕ × ℕ). p.1) date.0)
+      same_fields c d (ap (λ (p : ℕ × ℕ × ℕ). p.0) date.0) (ap (λ (p : ℕ × ℕ × ℕ). p.1) date.0)
           (ap (λ (p : ℕ × ℕ × ℕ). p.2) date.0) (ap (λ (p : ℕ × ℕ × ℕ). p.0) time.0)
           (ap (λ (p : ℕ × ℕ × ℕ). p.1) time.0) (ap (λ (p : ℕ × ℕ × ℕ). p.2) time.0) micros.0,
       micros.1,

@@ -5,6 +5,7 @@ pub mod Timestamps
 pub mod WideTimes
 pub mod Hosts
 pub mod Tags
+pub mod Runs
 pub mod TagViews
 pub mod WideTags
 pub mod Splits

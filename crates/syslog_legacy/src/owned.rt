@@ -1,7 +1,6 @@
 //! The record of a legacy packet, with memory of its own.
 
-ghost use Rattle.std.specs.Prelude.{◌≡◌, IfOk, IfSome, MatchResult, option_map};
-ghost use Rattle.syslog_value.specs.Parts.{IsWord};
+ghost use Rattle.std.specs.Prelude.{◌≡◌, IfOk, MatchResult};
 ghost use Rattle.syslog_legacy.specs.Readings.{Legacy, ReadAs};
 ghost use Rattle.syslog_legacy.specs.Views.{IsLegacyFault, legacy_view_parts};
 
@@ -10,23 +9,8 @@ use crate::fault::LegacyFault;
 use crate::view::LegacyView;
 use crate::whole::legacy_view;
 use std::alloc::{AllocError, Global};
-use syslog_grammar::fields::{to_message, to_word};
-use syslog_value::{Record, StructuredData, Word, WordFault};
-
-/// The word of octets that are known to be one, if there are any.
-fn known_word<const N: usize>(
-    alloc: Global,
-    octets: Option<&[u8]>,
-) -> Result<Option<Word<N>>, AllocError>
-    requires { IfSome (option_map (λ s. s.now) octets) (IsWord N) }
-    ensures { IfOk result (λ word. word ≡ option_map (λ s. s.now) octets.entry) }
-{
-    match to_word(alloc, octets) {
-        Ok(word) => Ok(word),
-        Err(WordFault::Memory) => Err(AllocError),
-        Err(_) => unreachable!(),
-    }
-}
+use syslog_grammar::fields::{known_word, to_message};
+use syslog_value::{Record, StructuredData};
 
 impl<'a> LegacyView<'a> {
     /// The record that the view shows, with memory of its own.

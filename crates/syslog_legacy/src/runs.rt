@@ -7,14 +7,11 @@ ghost use Rattle.octet_language.specs.Digits.{IsDigit};
 ghost use Rattle.octet_language.specs.Language.{IfFirst};
 ghost use Rattle.syslog_value.specs.Parts.{IsPrintable};
 ghost use Rattle.syslog_legacy.specs.Hosts.{IsNilable, SplitsRun};
+ghost use Rattle.syslog_legacy.specs.Runs.{IsOf};
 ghost use Rattle.syslog_legacy.specs.Tags.{IsProcOctet, IsTagOctet};
 
-#[inline(always)]
-fn is_printable(octet: u8) -> bool
-    ensures { IsTrue result ↔ IsPrintable octet }
-{
-    octet >= 33 && octet <= 126
-}
+use syslog_fields::reading::is_digit;
+use syslog_fields::word::is_printable;
 
 #[inline(always)]
 fn is_tag_octet(octet: u8) -> bool
@@ -30,108 +27,74 @@ fn is_proc_octet(octet: u8) -> bool
     is_printable(octet) && octet != b']'
 }
 
-/// Whether an octet is a digit of ASCII.
+/// A class of octets, of which runs are read.
+#[derive(Clone, Copy)]
+enum OctetClass {
+    /// Those of a host.
+    Host,
+    /// Those of the name in a tag.
+    Tag,
+    /// Those of a process id.
+    Proc,
+    /// Digits.
+    Digit,
+}
+
 #[inline(always)]
-pub fn is_digit(octet: u8) -> bool
-    ensures { IsTrue result ↔ IsDigit octet }
+fn is_of(class: OctetClass, octet: u8) -> bool
+    ensures { IsTrue result ↔ IsOf class octet }
 {
-    octet >= b'0' && octet <= b'9'
+    match class {
+        OctetClass::Host => is_printable(octet),
+        OctetClass::Tag => is_tag_octet(octet),
+        OctetClass::Proc => is_proc_octet(octet),
+        OctetClass::Digit => is_digit(octet),
+    }
 }
 
-/// How many octets at the start are printable, up to 255.
-#[inline]
-fn host_len(octets: &[u8]) -> usize
-    ensures most { result ≤ 255 }
+/// How many octets at the start are of a class, up to `most`.
+#[inline(always)]
+fn run_len(class: OctetClass, most: usize, octets: &[u8]) -> usize
+    ensures most { result ≤ most }
     ensures within { result ≤ length octets.now }
-    ensures run { AllByRecursion IsPrintable (take result octets.now) }
-    ensures ends { result < 255 → IfFirst (λ x. IsPrintable x → ⊥) (drop result octets.now) }
+    ensures run { AllByRecursion (IsOf class) (take result octets.now) }
+    ensures ends { result < most → IfFirst (λ x. IsOf class x → ⊥) (drop result octets.now) }
 {
-    let most = octets.len().min(255);
-    for i in 0..most {
-        if !is_printable(octets[i]) {
+    let end = octets.len().min(most);
+    for i in 0..end {
+        if !is_of(class, octets[i]) {
             return i;
         }
     }
-    most
-}
-
-/// How many octets at the start may be part of the name in a tag, up to 48.
-#[inline]
-fn tag_len(octets: &[u8]) -> usize
-    ensures most { result ≤ 48 }
-    ensures within { result ≤ length octets.now }
-    ensures run { AllByRecursion IsTagOctet (take result octets.now) }
-    ensures ends { result < 48 → IfFirst (λ x. IsTagOctet x → ⊥) (drop result octets.now) }
-{
-    let most = octets.len().min(48);
-    for i in 0..most {
-        if !is_tag_octet(octets[i]) {
-            return i;
-        }
-    }
-    most
-}
-
-/// How many octets at the start may be part of a process id, up to 128.
-#[inline]
-fn proc_len(octets: &[u8]) -> usize
-    ensures most { result ≤ 128 }
-    ensures within { result ≤ length octets.now }
-    ensures run { AllByRecursion IsProcOctet (take result octets.now) }
-    ensures ends { result < 128 → IfFirst (λ x. IsProcOctet x → ⊥) (drop result octets.now) }
-{
-    let most = octets.len().min(128);
-    for i in 0..most {
-        if !is_proc_octet(octets[i]) {
-            return i;
-        }
-    }
-    most
-}
-
-/// How many octets at the start are digits, up to seven.
-#[inline]
-fn digit_len(octets: &[u8]) -> usize
-    ensures most { result ≤ 7 }
-    ensures within { result ≤ length octets.now }
-    ensures run { AllByRecursion IsDigit (take result octets.now) }
-    ensures ends { result < 7 → IfFirst (λ x. IsDigit x → ⊥) (drop result octets.now) }
-{
-    let most = octets.len().min(7);
-    for i in 0..most {
-        if !is_digit(octets[i]) {
-            return i;
-        }
-    }
-    most
+    end
 }
 
 /// The printable octets at the start, up to 255, and what follows them.
 pub fn host_run(octets: &[u8]) -> (&[u8], &[u8])
     ensures { SplitsRun IsPrintable 255 octets.now result.0.now result.1.now }
 {
-    octets.split_at(host_len(octets))
+    octets.split_at(run_len(OctetClass::Host, 255, octets))
 }
 
 /// The octets at the start that may be part of the name in a tag, up to 48, and what follows them.
 pub fn tag_run(octets: &[u8]) -> (&[u8], &[u8])
     ensures { SplitsRun IsTagOctet 48 octets.now result.0.now result.1.now }
 {
-    octets.split_at(tag_len(octets))
+    octets.split_at(run_len(OctetClass::Tag, 48, octets))
 }
 
 /// The octets at the start that may be part of a process id, up to 128, and what follows them.
 pub fn proc_run(octets: &[u8]) -> (&[u8], &[u8])
     ensures { SplitsRun IsProcOctet 128 octets.now result.0.now result.1.now }
 {
-    octets.split_at(proc_len(octets))
+    octets.split_at(run_len(OctetClass::Proc, 128, octets))
 }
 
 /// The digits at the start, up to seven, and what follows them.
 pub fn digit_run(octets: &[u8]) -> (&[u8], &[u8])
     ensures { SplitsRun IsDigit 7 octets.now result.0.now result.1.now }
 {
-    octets.split_at(digit_len(octets))
+    octets.split_at(run_len(OctetClass::Digit, 7, octets))
 }
 
 /// The octets, or None for the one octet "-".

@@ -1,9 +1,7 @@
 //! TIMESTAMP of a packet in the wide dialect, as devices and programs spell it.
 
-ghost use Rattle.std.specs.Prelude.{◌≡◌, ◌≤◌, ◌+◌, ◌-◌, ◌++◌, length, replicate, slice_index};
+ghost use Rattle.std.specs.Prelude.{◌≤◌};
 ghost use Rattle.std.specs.Prelude.{ℤ, IfSome, MatchOption};
-ghost use Rattle.std.specs.List.{AllByRecursion};
-ghost use Rattle.octet_language.specs.Digits.{IsDigit, read_on};
 ghost use Rattle.octet_language.specs.Language.{AnyOf, NoPrefix};
 ghost use Rattle.octet_language.specs.Reading.{Follows};
 ghost use Rattle.syslog_fields.specs.Dates.{Date};
@@ -15,8 +13,10 @@ ghost use Rattle.syslog_legacy.specs.WideTimes.{SpacedYear, Stamp, WideTime};
 
 use crate::clock::LegacyClock;
 use crate::octets::{behind, without};
-use crate::runs::{digit_run, is_digit};
+use crate::runs::digit_run;
 use crate::timestamp::date;
+use syslog_fields::reading::is_digit;
+use syslog_fields::timestamp::micros;
 use syslog_grammar::fields::{clock, last_day};
 use syslog_value::{Civil, Instant};
 
@@ -80,33 +80,6 @@ fn named_date(clock_year: u16, octets: &[u8]) -> Option<((u16, u8, u8), &[u8])>
         Some((year, rest)) => Some(((year, month, day), rest)),
         None => Some(((clock_year, month, day), rest)),
     }
-}
-
-/// The digit at an offset behind the point, or a zero on the right.
-#[inline(always)]
-fn digit_at(digits: &[u8], offset: usize) -> u32
-    requires { AllByRecursion IsDigit digits.now }
-    ensures value { result ≡ slice_index digits.now offset - 48 }
-    ensures range { result ≤ 9 }
-{
-    if offset < digits.len() {
-        u32::from(digits[offset] - b'0')
-    } else {
-        0
-    }
-}
-
-/// The microseconds that the digits behind the point stand for.
-#[inline(always)]
-fn micros(digits: &[u8]) -> u32
-    requires most { length digits.now ≤ 6 }
-    requires digits { AllByRecursion IsDigit digits.now }
-    ensures value { result ≡ read_on 0 (digits.now ++ replicate (6 - length digits.now) 48) }
-    ensures range { result ≤ 999_999 }
-{
-    let thousands = 100 * digit_at(digits, 0) + 10 * digit_at(digits, 1) + digit_at(digits, 2);
-    let ones = 100 * digit_at(digits, 3) + 10 * digit_at(digits, 4) + digit_at(digits, 5);
-    1000 * thousands + ones
 }
 
 /// Reads a point and one to six digits, and gives the microseconds.

@@ -2,7 +2,7 @@
 use Rattle.std.proofs.Common.{◌≡◌, ◌≢◌, ℕ, List, [], ◌∷◌, ◌++◌, length, refl, sym, ap, subst, ◌∙◌, append_assoc, arith}
 use Rattle.std.proofs.Common.{inl, inr, ◌⊎◌}
 use Rattle.std.proofs.lemmas.List.{append_cancel_left, append-nil}
-use Rattle.octet_language.specs.Language.{Language, Only, ◌⋅◌, AnyOf, Each, Refuses, NoPrefix, IfFirst}
+use Rattle.octet_language.specs.Language.{Language, Only, ◌⋅◌, AnyOf, Each, NoPrefix, IfFirst}
 use Rattle.octet_language.specs.Reading.{Fails, Follows, Misses}
 use Rattle.octet_language.proofs.Lists.{heads, tails}
 use Rattle.octet_language.proofs.Chain.{Fails-first, Fails-later, Follows-then}
@@ -21,6 +21,7 @@ use Rattle.syslog_fields.proofs.Loops.{apart_mark}
 use Rattle.syslog_fields.proofs.ParamTexts.{IsPrefixFree-element, Fails-element, Follows-element, element_prefix}
 use Rattle.syslog_fields.specs.FirstElements.{IsFirstId, IsIdLength}
 use Rattle.syslog_fields.proofs.FirstElements.{id_ends}
+use Rattle.octet_language.proofs.FirstOctet.{refuses_alike, refuses_behind}
 
 abbrev AnyMessagePart : Language
 AnyMessagePart = AnyOf MessagePart
@@ -145,10 +146,6 @@ goes_bad b rest t x remaining e f g k =
           (apart_mark 32 rest (space_apart rest t x e f)) h)).none;
     }
 
-pub takes_element : (rest after : List ℕ) (v : ElementSpan) → Follows (SpannedElement v) rest after
-    → Follows (AnyOf Element) rest after
-takes_element rest after v f = Follows-element rest after v f
-
 -- ---- the whole of it
 
 -- by the first octet: NILVALUE, or elements
@@ -187,11 +184,6 @@ from_other Z x t ne h = elim (data_cases Z (x ∷ t) h) [
 
 -- ---- misses, by the first octet
 
-miss_behind_refuses : (L M : Language) (x : ℕ) (p rest : List ℕ) → ((s : List ℕ) → M (x ∷ s) → L s) → Refuses L p rest
-    → Refuses M (x ∷ p) rest
-miss_behind_refuses L M x p [] from r = tt
-miss_behind_refuses L M x p (y ∷ rest) from r = λ (more, m). r (more, from ((p ++ y ∷ []) ++ more) m)
-
 Misses-after : (L M : Language) (x : ℕ) (b rest : List ℕ) (remaining : ℕ) → ((s : List ℕ) → M (x ∷ s) → L s)
     → ((s : List ℕ) → L s → M (x ∷ s)) → b ≡ x ∷ rest → Misses L rest remaining → Misses M b remaining
 Misses-after L M x b rest remaining from to e m = rw e (record {
@@ -202,26 +194,9 @@ Misses-after L M x b rest remaining from to e m = rw e (record {
     parts = ap (λ (k : List ℕ). x ∷ k) m.stops.parts;
     count = m.stops.count;
     begins = (m.stops.begins.0, to (m.stops.read ++ m.stops.begins.0) m.stops.begins.1);
-    refuses = miss_behind_refuses L M x m.stops.read m.stops.rest from m.stops.refuses;
+    refuses = refuses_behind L M x m.stops.read m.stops.rest from m.stops.refuses;
   };
 })
-
-alike_refuses : (L M : Language) (x : ℕ) (b p rest : List ℕ) → ((s : List ℕ) → M (x ∷ s) → L (x ∷ s))
-    → x ∷ b ≡ p ++ rest → Refuses L p rest → Refuses M p rest
-alike_refuses L M x b p [] from e r = tt
-alike_refuses L M x b [] (y ∷ rest) from e r =
-    λ (more, m). r (
-      more,
-      subst (λ (n : ℕ). L (n ∷ more)) (heads x y b rest e)
-          (from more (subst (λ (n : ℕ). M (n ∷ more)) (sym (heads x y b rest e)) m)),
-    )
-alike_refuses L M x b (z ∷ p) (y ∷ rest) from e r =
-    λ (more, m). r (
-      more,
-      subst (λ (n : ℕ). L (n ∷ (p ++ y ∷ []) ++ more)) (heads x z b (p ++ y ∷ rest) e)
-          (from ((p ++ y ∷ []) ++ more) (subst (λ (n : ℕ). M (n ∷ (p ++ y ∷ []) ++ more))
-          (sym (heads x z b (p ++ y ∷ rest) e)) m)),
-    )
 
 Misses-alike : (L M : Language) (x : ℕ) (b rest : List ℕ) (remaining : ℕ) → ((s : List ℕ) → M (x ∷ s) → L (x ∷ s))
     → ((s : List ℕ) → L s → M s) → b ≡ x ∷ rest → Misses L b remaining → Misses M b remaining
@@ -233,7 +208,7 @@ Misses-alike L M x b rest remaining from to e m = record {
     parts = m.stops.parts;
     count = m.stops.count;
     begins = (m.stops.begins.0, to (m.stops.read ++ m.stops.begins.0) m.stops.begins.1);
-    refuses = alike_refuses L M x rest m.stops.read m.stops.rest from (sym e ∙ m.stops.parts) m.stops.refuses;
+    refuses = refuses_alike L M x rest m.stops.read m.stops.rest from (sym e ∙ m.stops.parts) m.stops.refuses;
   };
 }
 

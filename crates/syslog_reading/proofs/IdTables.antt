@@ -11,17 +11,13 @@ use Rattle.syslog_fields.specs.Spans.{ElementSpan}
 use Rattle.syslog_reading.specs.IdHashes.{IsMet, HasHash, TakesHash, hash_of, place_of, tag_of}
 use Rattle.syslog_reading.specs.Ids.{Known}
 use Rattle.syslog_reading.proofs.Repeating.{all_end, keep, next}
+use Rattle.std.proofs.Math.Seq.{drop-cons}
 
 -- ---- the slots
 
-drop_next_suc : {X : Type 0} (s : List X) (i : ℕ) (d : X) → i < length s → drop i s ≡ get_or s i d ∷ drop (suc i) s
-drop_next_suc [] i d less = absurd (omega arith)
-drop_next_suc (x ∷ s) zero d less = refl
-drop_next_suc (x ∷ s) (suc i) d less = drop_next_suc s i d (omega arith)
-
 -- the item at an index comes first in what is left from there on
 pub drop_next : {X : Type 0} (s : List X) (i : ℕ) (d : X) → i < length s → drop i s ≡ get_or s i d ∷ drop (i + 1) s
-drop_next s i d less = rw add-one (drop_next_suc s i d less)
+drop_next s i d less = rw add-one (drop-cons s i d less)
 
 set_length : (s : List ℕ) (j x : ℕ) → length (set s j x) ≡ length s
 set_length [] j x = refl

@@ -1,9 +1,9 @@
 -- One text is at most one record.
-use Rattle.std.proofs.Common.{◌≡◌, ℕ, List, refl, sym, subst, ◌∙◌, arith}
+use Rattle.std.proofs.Common.{◌≡◌, ℕ, List, sym, subst, ◌∙◌, arith}
 use Rattle.std.specs.Prelude.{ℤ, Option, option_map}
 use Rattle.std.specs.List.Sorted.{IsPermutation}
 use Rattle.octet_language.specs.Language.{Language, AnyOf}
-use Rattle.syslog_value.specs.Parts.{Parts, ElementParts, MessageParts}
+use Rattle.syslog_value.specs.Parts.{Parts, ElementParts}
 use Rattle.syslog_fields.specs.Grammar.{HeaderParts, Header, header_of, Priority, Version, Spaced, Nilable, Word}
 use Rattle.syslog_fields.specs.Grammar.{MessagePart, SyslogMsg}
 use Rattle.syslog_fields.specs.Time.{CivilTime, TimeText, instant}
@@ -15,6 +15,7 @@ use Rattle.syslog_reading.proofs.ById.{one_order}
 use Rattle.syslog_reading.proofs.Headers.{IsPrefixFree-header}
 use Rattle.syslog_reading.proofs.OneMeaning.{by_prefix, spaced, priority_same, nilable_time_same, word_same, data_same}
 use Rattle.syslog_reading.proofs.OneMeaning.{tail_same, tail_prefix}
+use Rattle.syslog_value.specs.EqualityLaws.{same_record}
 
 -- the fields of two headers mean the same
 pub record SameHeader (h g : HeaderParts) : Type 0 where
@@ -66,29 +67,6 @@ header_same h g b (
       proc_id = one_word 128 h.proc_id g.proc_id u5 (subst (OneWord 128 h.proc_id) s5.0 h5) g5;
       msg_id = one_word 32 h.msg_id g.msg_id v5 (subst (OneWord 32 h.msg_id) s5.1 h6) g6;
     }
-
-abbrev parts_of : ℕ → Option ℤ → Option (List ℕ) → Option (List ℕ) → Option (List ℕ) → Option (List ℕ)
-    → List ElementParts → MessageParts → Parts ℤ
-parts_of p t h a c m e x = record {
-  priority = p;
-  time = t;
-  hostname = h;
-  app_name = a;
-  proc_id = c;
-  msg_id =
-      m;
-  elements = e;
-  message = x;
-}
-
-same_record : (r q : Parts ℤ) → r.priority ≡ q.priority → r.time ≡ q.time → r.hostname ≡ q.hostname
-    → r.app_name ≡ q.app_name → r.proc_id ≡ q.proc_id → r.msg_id ≡ q.msg_id
-    → r.elements ≡ q.elements → r.message ≡ q.message → r ≡ q
-same_record r q priority time hostname app_name proc_id msg_id elements message =
-    let same : parts_of r.priority r.time r.hostname r.app_name r.proc_id r.msg_id r.elements r.message
-    ≡ parts_of q.priority q.time q.hostname q.app_name q.proc_id q.msg_id q.elements q.message =
-    rw (priority, time, hostname, app_name, proc_id, msg_id, elements, message) refl in
-    same
 
 -- the elements of one text, and what follows of the parts
 meant : (p s : Parts CivilTime) (r q : Parts ℤ) → SameHeader (header_of p) (header_of s) → p.elements ≡ s.elements

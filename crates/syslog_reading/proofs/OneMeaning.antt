@@ -4,12 +4,10 @@ use Rattle.std.proofs.Common.{subst, ◌∙◌, append_assoc, arith, inl, inr}
 use Rattle.std.specs.Prelude.{ℤ, pos, neg_ℤ, Option, Some, None, option_map, replicate}
 use Rattle.std.specs.Fmt.{decimal}
 use Rattle.std.proofs.lemmas.Fmt.{decimal_injective}
-use Rattle.std.proofs.lemmas.Bool.Decides.{nat_tests}
 use Rattle.std.proofs.lemmas.List.{append_cancel_left, append_cancel_right}
-use Rattle.syslog_value.specs.Calendar.{month_length}
 use Rattle.octet_language.specs.Digits.{IsDigit, read_on}
 use Rattle.octet_language.specs.Language.{Language, Only, ◌⋅◌, AnyOf, Each, IsPrefixFree, IfFirst}
-use Rattle.octet_language.proofs.Lists.{heads, tails, same_prefix}
+use Rattle.octet_language.proofs.Lists.{heads, tails, by_length}
 use Rattle.syslog_value.specs.Parts.{ParamParts, ElementParts, MessageParts, AnyOctets, Utf8Text, bom}
 use Rattle.syslog_fields.specs.Grammar.{Nilable, Word, Spaced, Priority, Param, Element, StructuredDataText, Message}
 use Rattle.syslog_fields.specs.Grammar.{MessagePart}
@@ -22,13 +20,9 @@ use Rattle.syslog_fields.proofs.Times.{OneValue-year}
 use Rattle.syslog_fields.proofs.Unescaped.{meaning}
 use Rattle.syslog_reading.proofs.OwnedParts.{param_same, param_is, element_same, element_is}
 use Rattle.syslog_reading.proofs.Viewing.{time_exists}
+use Rattle.syslog_value.proofs.DayNumbers.{month_most}
 
--- the two parts of a text, by their length or by one prefix
-by_length : (f g s t : List ℕ) → length f ≡ length g → f ++ s ≡ g ++ t → (f ≡ g) × (s ≡ t)
-by_length f g s t n e =
-    let same = same_prefix f g s t n e in
-    (same, append_cancel_left f s t (e ∙ ap (λ (u : List ℕ). u ++ t) (sym same)))
-
+-- the two parts of a text, by one prefix
 pub by_prefix : (L : Language) (x y u v : List ℕ) → IsPrefixFree L → L x → L u → x ++ y ≡ u ++ v → (x ≡ u) × (y ≡ v)
 by_prefix L x y u v one a b e =
     let same = one x y u v a b e in
@@ -147,9 +141,6 @@ fixed t b (
       is = e ∙ rw (f, ye, h, i, l, me, o, p, de, s, u, z, z1, he, z2, i2, z3, ne, z4, i4, se) refl;
       behind = behind;
     }
-
-month_most : (y m : ℕ) → month_length y m ≤ 31
-month_most y m = grind (arith, nat_tests)
 
 abbrev made : ℕ → ℕ → ℕ → ℕ → ℕ → ℕ → ℕ → ℤ → CivilTime
 made y m d h i s u o = record {

@@ -14,11 +14,8 @@ use Rattle.syslog_value.proofs.CivilTimes.{civil-injective}
 use mathlib.Core.HLevel.{×_prop, Unit-prop, Σ_prop_path}
 use Rattle.syslog_fields.specs.Canonical.{Canonical, HeaderForm, SpacedWord, TimeForm, civil_text, message_form}
 use Rattle.syslog_fields.specs.Canonical.{priority_version_form, structured_data_form, word_form}
-
-pub once : (A B : Language) (b c : List ℕ) → ((s t : List ℕ) → A s → A t → s ≡ t) → ((s t : List ℕ) → B s → B t → s ≡ t)
-    → (A ⋅ B) b → (A ⋅ B) c → b ≡ c
-once A B b c one two (x, y, e, h, k) (u, v, f, i, j) =
-    e ∙ ap (λ (s : List ℕ). s ++ y) (one x u h i) ∙ ap (λ (s : List ℕ). u ++ s) (two y v k j) ∙ sym f
+use Rattle.syslog_fields.proofs.CanonicalTexts.{time_once, word_once}
+use Rattle.octet_language.proofs.Sequence.{once, only_once}
 
 -- pairs whose first part is settled by what holds of it
 pub unique_prop : {A : Type 0} {B : A → Type 0} → ((x : A) → IsProp (B x)) → ((x y : A) → B x → B y → x ≡ y)
@@ -52,9 +49,6 @@ then_prop A B b one two same =
 only_prop : (a s : List ℕ) → IsProp (Only a s)
 only_prop a s = texts_set s a
 
-only_once : (a s t : List ℕ) → Only a s → Only a t → s ≡ t
-only_once a s t h k = h ∙ sym k
-
 civil_prop : (c : Civil) → IsProp (IsCivil c)
 civil_prop = hlevel props
 
@@ -71,11 +65,6 @@ time_prop (Some i) b =
     let flat : (c : Civil) × Named c → TimeForm (Some i) b = λ n. (n.0, n.1.0, n.1.1.0, n.1.1.1) in
     λ p q. ap flat (nested (p.0, (p.1, (p.2, p.3))) (q.0, (q.1, (q.2, q.3))))
 
-time_once : (i : Option ℤ) (b c : List ℕ) → TimeForm i b → TimeForm i c → b ≡ c
-time_once None b c h k = h ∙ sym k
-time_once (Some i) b c (u, uc, ui, ub) (v, vc, vi, vb) =
-    ub ∙ ap civil_text (civil-injective u v uc vc (ui ∙ sym vi)) ∙ sym vb
-
 spaced_prop : (i : Option ℤ) (b : List ℕ) → IsProp ((TimeForm i ⋅ Only (32 ∷ [])) b)
 spaced_prop i b = then_prop (TimeForm i) (Only (32 ∷ [])) b (time_prop i) (only_prop (32 ∷ [])) (time_once i)
 
@@ -85,9 +74,6 @@ spaced_once i b c = once (TimeForm i) (Only (32 ∷ [])) b c (time_once i) (only
 word_prop : (w : Option (List ℕ)) (b : List ℕ) → IsProp (SpacedWord w b)
 word_prop w b = then_prop (Only (word_form w)) (Only (32 ∷ [])) b (only_prop (word_form w)) (only_prop (32 ∷ []))
     (only_once (word_form w))
-
-word_once : (w : Option (List ℕ)) (s t : List ℕ) → SpacedWord w s → SpacedWord w t → s ≡ t
-word_once w s t h k = once (Only (word_form w)) (Only (32 ∷ [])) s t (only_once (word_form w)) (only_once (32 ∷ [])) h k
 
 pub canonical_prop : (r : Parts ℤ) (b : List ℕ) → IsProp (Canonical r b)
 unfolding HeaderForm

@@ -11,7 +11,7 @@ use Rattle.syslog_fields.specs.Forms.{IsForm, ReadsForm, ReadsElement}
 use Rattle.syslog_fields.specs.Grammar.{Element, StructuredDataText}
 use Rattle.syslog_fields.specs.Spans.{EndsStructuredData}
 use Rattle.syslog_fields.proofs.ParamTexts.{element_prefix}
-use Rattle.syslog_fields.proofs.ReadForms.{more_read, take_append}
+use Rattle.syslog_fields.proofs.ReadForms.{more_read}
 use Rattle.syslog_reading.specs.Faults.{AreDistinct}
 use Rattle.syslog_reading.specs.FewIds.{IsNew, Keeps}
 use Rattle.syslog_reading.specs.DataForms.{elements_form, ReadsElements, HasDataForms}
@@ -21,6 +21,7 @@ use Rattle.syslog_reading.proofs.ById.{distinct_by_id}
 use Rattle.syslog_reading.proofs.Rising.{none_met, not_above, of_rising, rising_of}
 use Rattle.syslog_reading.proofs.OneMeaning.{data_same}
 use Rattle.syslog_reading.proofs.Repeating.{distinct_end}
+use Rattle.std.proofs.Math.Seq.{take-append_seam}
 
 -- ---- ids that ascend
 
@@ -139,7 +140,7 @@ form_iff false text form h = (λ u. absurd cc, λ e. absurd (omega (arith, ap le
 by_id_iff : (a : Bool) (es : List ElementParts) → (IsTrue a ↔ IsRisingFrom None (ids_of es)) → IsTrue a ↔ IsById es
 by_id_iff a es h = (λ u. (of_rising None es (h.0 u)).1, λ k. h.1 (rising_of None es (none_met es) k))
 
-one_data : (es fs : List ElementParts) (text : List ℕ) → StructuredDataText es text → StructuredDataText fs text
+pub one_data : (es fs : List ElementParts) (text : List ℕ) → StructuredDataText es text → StructuredDataText fs text
     → es ≡ fs
 one_data es fs text h k = (data_same es fs text [] text [] h k tt tt refl).0
 
@@ -173,7 +174,7 @@ text_read : (a : Bool) (b rest text : List ℕ) (r : ReadsForm (Each Element) el
     → text ≡ take (length b - length rest) b → text ≡ r.text
 text_read a b rest text r e =
     let n : length b - length rest ≡ length r.text = omega (arith, ap length r.parts, length-append r.text rest) in
-    e ∙ ap (λ (k : ℕ). take k b) n ∙ ap (take (length r.text)) r.parts ∙ take_append r.text rest
+    e ∙ ap (λ (k : ℕ). take k b) n ∙ ap (take (length r.text)) r.parts ∙ take-append_seam r.text rest
 
 pub data_differ : (a ascends d : Bool) (b rest text : List ℕ) → ReadsElements a ascends d b rest
     → text ≡ take (length b - length rest) b → IsTrue d → IdsDiffer text

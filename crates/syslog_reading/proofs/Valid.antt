@@ -91,7 +91,7 @@ words h b (
 
 -- ---- the message
 
-valid_message : (m : MessageParts) (b : List ℕ) → Message m b → IsMessage m
+pub valid_message : (m : MessageParts) (b : List ℕ) → Message m b → IsMessage m
 valid_message (AnyOctets octets) b h = (h.0, h.1)
 valid_message (Utf8Text text) b h = IsUtf8-text text h.0
 

@@ -177,7 +177,7 @@ out_of_range b s k out =
       stands_prefix b s.fields.time_remaining k.time,
     )
 
-same_instant : (time : Option Timestamp) → option_map (λ s. instant (time_of s)) time
+pub same_instant : (time : Option Timestamp) → option_map (λ s. instant (time_of s)) time
     ≡ option_map instant (option_map time_of time)
 same_instant None = refl
 same_instant (Some t) = refl

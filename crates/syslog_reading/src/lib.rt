@@ -26,7 +26,7 @@ pub use decoding::{DecodeFault, decode};
 pub use element::{ElementView, ParamView};
 pub use fault::{Fault, Field};
 pub use message::MessageView;
-pub use owned::{to_message, to_word};
+pub use owned::{known_word, to_message, to_word};
 pub use parts::{Elements, Params};
 pub use record_view::RecordView;
 pub use same::same_value;

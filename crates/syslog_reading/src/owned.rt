@@ -39,7 +39,7 @@ pub fn to_word<const N: usize>(
 }
 
 /// The word of octets that are known to be one, if there are any.
-fn known_word<const N: usize>(
+pub fn known_word<const N: usize>(
     alloc: Global,
     octets: Option<&[u8]>,
 ) -> Result<Option<Word<N>>, AllocError>

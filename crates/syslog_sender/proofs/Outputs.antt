@@ -1,24 +1,15 @@
 -- What lists of calls write.
-use Rattle.std.proofs.Common.{◌≡◌, ℕ, ℤ, ◌<◌, List, [], ◌∷◌, ◌++◌, length, Option, refl, sym, ap, subst, ◌∙◌, arith}
+use Rattle.std.proofs.Common.{◌≡◌, ℕ, ℤ, List, [], ◌∷◌, ◌++◌, Option, refl, sym, ap, subst, ◌∙◌}
 use Rattle.std.proofs.Common.{inl, inr}
 use Rattle.std.specs.Io.KnownBytes.{Appends}
 use Rattle.std.proofs.KnownBytes.{Appends-nil, Appends-trans}
 use Rattle.syslog_value.specs.Parts.{Parts}
-use Rattle.syslog_fields.specs.Canonical.{Canonical, HeaderForm, priority_version_form}
 use Rattle.syslog_grammar.proofs.CanonicalParses.{canonical_once}
 use Rattle.syslog_frame.specs.Frames.{framed}
 use Rattle.syslog_frame.specs.declared.framing.Framing.{Framing}
 use Rattle.syslog_sender.specs.Senders.{SenderParts, IsEmpty, SetsMask}
 use Rattle.syslog_sender.specs.Sent.{EventParts, IsFrame, Writes, WritesRecord, record_of}
 use Rattle.syslog_sender.specs.Calls.{Call, SetMask, Prepare, Send, IsInForce, Outputs, Steps, masks_of}
-
--- canonical octets begin with an angle bracket
-pub some_octets : (r : Parts ℤ) (c : List ℕ) → Canonical r c → 0 < length c
-unfolding HeaderForm
-some_octets r c (x, y, e, (prefix, following, f, g, w), t) =
-    let all : c ≡ (priority_version_form r.priority ++ following) ++ y =
-    e ∙ ap (λ (s : List ℕ). s ++ y) (f ∙ ap (λ (s : List ℕ). s ++ following) g) in
-    rw all (omega arith)
 
 -- ---- one output
 

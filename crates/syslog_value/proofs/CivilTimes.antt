@@ -19,7 +19,7 @@ parts_of a b s t m n hs ht hm hn e = (
   omega (arith, signed_arith),
 )
 
-date_of : (y m d : ℕ) → IsDay y m d → Date
+unfoldable pub date_of : (y m d : ℕ) → IsDay y m d → Date
 date_of y m d h = record {
   year = pos y;
   month = m;
@@ -41,7 +41,7 @@ day_number-injective y m d y' m' d' h h' e =
 abbrev civil_of : ℕ → ℕ → ℕ → ℕ → ℕ → ℕ → ℕ → Civil
 civil_of y m d h i s u = record { year = y; month = m; day = d; hour = h; minute = i; second = s; micros = u }
 
-same_fields : (c d : Civil) → c.year ≡ d.year → c.month ≡ d.month → c.day ≡ d.day → c.hour ≡ d.hour
+pub same_fields : (c d : Civil) → c.year ≡ d.year → c.month ≡ d.month → c.day ≡ d.day → c.hour ≡ d.hour
     → c.minute ≡ d.minute → c.second ≡ d.second
     → c.micros ≡ d.micros → c ≡ d
 same_fields c d year month day hour minute second micros =

@@ -18,6 +18,9 @@ is_leap-same y = grind (arith, nat_tests)
 pub month_length-same : (y m : ℕ) → days_in_month (pos y) m ≡ month_length y m
 month_length-same y m = rw (is_leap-same y)
 
+pub month_most : (y m : ℕ) → month_length y m ≤ 31
+month_most y m = grind (arith, nat_tests)
+
 months-same : (y n : ℕ) → jiff_months (pos y) n ≡ days_of_months y n
 unfolding jiff_months days_of_months
 months-same y zero = refl

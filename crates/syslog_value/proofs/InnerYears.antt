@@ -1,7 +1,6 @@
 -- The years whose civil times all name an instant in range.
 use Rattle.std.proofs.Common.{◌≡◌, ℕ, ◌≤◌, arith, inl, refl}
 use Rattle.std.specs.Prelude.{ℤ, pos, neg_ℤ, ◌≤ℤ◌, ◌+ℤ◌, ◌-ℤ◌, ◌*ℤ◌}
-use Rattle.jiff_core.specs.declared.civil.date.Date.{Date}
 use Rattle.jiff_core.specs.Calendar.{days_from_civil}
 use Rattle.jiff_core.proofs.CalendarLemmas.{days_from_civil-day_count}
 use Rattle.jiff_core.proofs.DateLemmas.{epoch_day-lt}
@@ -13,21 +12,12 @@ use Rattle.syslog_value.specs.declared.instant.TimeFault.TheVariants.{NoSuchDate
 use Rattle.syslog_value.specs.Calendar.{IsDay, day_number}
 use Rattle.syslog_value.specs.Instants.{IsCivil, IsFault, IsOffset, instant_of, second_of_day}
 use Rattle.syslog_value.specs.Parts.{IsInstant}
-use Rattle.syslog_value.proofs.DayNumbers.{day_number-same, month_length-same}
+use Rattle.syslog_value.proofs.DayNumbers.{day_number-same}
+use Rattle.syslog_value.proofs.CivilTimes.{date_of}
 
 -- a year from 1 to 9998
 abbrev pub IsInner : ℕ → Type 0
 IsInner y = (1 ≤ y) × (y ≤ 9998)
-
-date_made : (y m d : ℕ) → IsDay y m d → Date
-date_made y m d h = record {
-  year = pos y;
-  month = m;
-  day = d;
-  year_in = (omega (arith, signed_arith), omega (arith, signed_arith));
-  month_in = (h.1, h.2);
-  day_in = (h.3, rw month_length-same h.4);
-}
 
 last_of_year_0 : days_from_civil (pos 0) 12 31 ≡ neg_ℤ (pos 719_163)
 last_of_year_0 = omega (
@@ -49,12 +39,12 @@ abbrev Within : ℤ → Type 0
 Within day = (neg_ℤ (pos 719_162) ≤ℤ day) × (day ≤ℤ pos 2_932_531)
 
 day_in_range : (y m d : ℕ) → IsInner y → IsDay y m d → Within (day_number y m d)
-unfolding date_made
+unfolding date_of
 day_in_range y m d year h =
-    let low = epoch_day-lt (date_made 0 12 31 (omega arith, omega arith, omega arith, omega arith, omega arith))
-    (date_made y m d h) (inl (omega (arith, signed_arith, year.0))) in
-    let high = epoch_day-lt (date_made y m d h)
-    (date_made 9999 1 1 (omega arith, omega arith, omega arith, omega arith, omega arith))
+    let low = epoch_day-lt (date_of 0 12 31 (omega arith, omega arith, omega arith, omega arith, omega arith))
+    (date_of y m d h) (inl (omega (arith, signed_arith, year.0))) in
+    let high = epoch_day-lt (date_of y m d h)
+    (date_of 9999 1 1 (omega arith, omega arith, omega arith, omega arith, omega arith))
     (inl (omega (arith, signed_arith, year.1))) in
     let is = day_number-same y m d h.3 in
     (omega (arith, signed_arith, low, last_of_year_0, is), omega (arith, signed_arith, high, first_of_year_9999, is))

@@ -1,5 +1,5 @@
 -- The tables of severities and facilities are in the order of their codes.
-use Rattle.std.proofs.Common.{◌≡◌, ◌≢◌, ℕ, ◌<◌, List, get_or, true, false, arith, refl}
+use Rattle.std.proofs.Common.{◌≡◌, ◌≢◌, ℕ, ◌<◌, List, get_or, true, false, arith, refl, sym, ap, ◌∙◌}
 use Rattle.std.specs.Str.{bytes_eq}
 use Rattle.std.proofs.lemmas.Slice.Eq.{bytes_eq-Decides}
 use Rattle.syslog_value.specs.declared.severity.Severity.{Severity}
@@ -86,3 +86,12 @@ facility_code-lt facility.Local4 = omega arith
 facility_code-lt facility.Local5 = omega arith
 facility_code-lt facility.Local6 = omega arith
 facility_code-lt facility.Local7 = omega arith
+
+-- a code is that of one facility or severity
+pub facility_once : (f g : Facility) → facility_code f ≡ facility_code g → f ≡ g
+facility_once f g e =
+    sym (facility_at f) ∙ ap (λ (k : ℕ). get_or facilities.ALL k facility.Kern) e ∙ facility_at g
+
+pub severity_once : (s t : Severity) → severity_code s ≡ severity_code t → s ≡ t
+severity_once s t e =
+    sym (severity_at s) ∙ ap (λ (k : ℕ). get_or severities.ALL k severity.Emergency) e ∙ severity_at t

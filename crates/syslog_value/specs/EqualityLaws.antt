@@ -26,7 +26,7 @@ option_decides E each (Some x) (Some y) = (λ yes. ap Some ((each x y).0 yes), �
 param_of : List ℕ → List ℕ → ParamParts
 param_of n v = record { name = n; value = v }
 
-same_params : (p q : ParamParts) → p.name ≡ q.name → p.value ≡ q.value → p ≡ q
+pub same_params : (p q : ParamParts) → p.name ≡ q.name → p.value ≡ q.value → p ≡ q
 unfolding param_of
 same_params p q name value = let same : param_of p.name p.value ≡ param_of q.name q.value = rw (name, value) in same
 
@@ -40,7 +40,7 @@ param_decides p q =
 element_of : List ℕ → List ParamParts → ElementParts
 element_of i ps = record { id = i; params = ps }
 
-same_elements : (e f : ElementParts) → e.id ≡ f.id → e.params ≡ f.params → e ≡ f
+pub same_elements : (e f : ElementParts) → e.id ≡ f.id → e.params ≡ f.params → e ≡ f
 unfolding element_of
 same_elements e f id params = let same : element_of e.id e.params ≡ element_of f.id f.params = rw (id, params) in same
 
@@ -103,13 +103,15 @@ parts_of p t h a c m e x = record {
   message = x;
 }
 
-same_parts : (r s : Parts ℤ) → r.priority ≡ s.priority → r.time ≡ s.time → SameWords r s → r.elements ≡ s.elements
+-- a record by its parts
+pub same_record : (r s : Parts ℤ) → r.priority ≡ s.priority → r.time ≡ s.time → r.hostname ≡ s.hostname
+    → r.app_name ≡ s.app_name → r.proc_id ≡ s.proc_id → r.msg_id ≡ s.msg_id → r.elements ≡ s.elements
     → r.message ≡ s.message → r ≡ s
 unfolding parts_of
-same_parts r s priority time words elements message =
+same_record r s priority time hostname app_name proc_id msg_id elements message =
     let same : parts_of r.priority r.time r.hostname r.app_name r.proc_id r.msg_id r.elements r.message
     ≡ parts_of s.priority s.time s.hostname s.app_name s.proc_id s.msg_id s.elements s.message =
-    rw (priority, time, words.hostname, words.app_name, words.proc_id, words.msg_id, elements, message) in
+    rw (priority, time, hostname, app_name, proc_id, msg_id, elements, message) in
     same
 
 words_of_same : (r s : Parts ℤ) → r ≡ s → SameWords r s
@@ -138,5 +140,5 @@ record_decides r s =
     (elements_decide r.elements s.elements) (message_decides r.message s.message) (λ e m. (e, m)) (λ t. t.0) (λ t. t.1))
     (λ w t. (w, t.0, t.1)) (λ t. t.0) (λ t. (t.1, t.2)))
     (λ t u. (t, u.0, u.1, u.2)) (λ t. t.0) (λ t. (t.1, t.2, t.3)))
-    (λ p t. same_parts r s p t.0 t.1 t.2 t.3) (ap (λ t. t.priority))
+    (λ p t. same_record r s p t.0 t.1.hostname t.1.app_name t.1.proc_id t.1.msg_id t.2 t.3) (ap (λ t. t.priority))
     (λ same. (ap (λ t. t.time) same, words_of_same r s same, ap (λ t. t.elements) same, ap (λ t. t.message) same))

@@ -3,7 +3,7 @@
 use crate::refused::RefusedFile;
 use crate::telling::Teller;
 use disk::DiskFault;
-use durable_store::OpenFault;
+use durable_store::{OpenFault, SetAside, check_newest};
 use folder_disk::{FolderDisk, FolderLock, LockFault, LockFile};
 use journal::JournalFault;
 use record_store::StoreFault;
@@ -63,43 +63,57 @@ fn refuse_lock(teller: Teller<'_, '_>, dir: &str, error: io::Error) -> u8 {
 }
 
 // Writes the newest journal anew if a run before has ended by a sync that failed, since the machine was
-// started: what a read shows of the journal may not be on the disk then, whatever a sync of it says.
+// started: what a read shows of the journal may not be on the disk then, whatever a sync of it says. A
+// journal that is damaged is told before.
 fn renew(
     teller: Teller<'_, '_>,
     dir: &str,
     lock: &mut FolderLock,
     disk: &mut FolderDisk<HostRuntime>,
 ) -> Result<(), Fault> {
-    let rt = teller.rt;
-    match lock.tells_of_failed_sync(rt, rt.alloc()) {
-        Ok(false) => {}
-        Ok(true) => {
-            teller.tell("a sync had failed: the newest journal is written anew\n");
-            match record_store::renew(rt.alloc(), disk) {
-                Ok(()) => {}
-                Err(fault) => return Err(refuse_store(teller, dir, OpenFault::Store(fault), disk)),
-            }
-        }
+    let alloc = teller.rt.alloc();
+    match lock.tells_of_failed_sync() {
+        Ok(false) => return Ok(()),
+        Ok(true) => {}
         Err(error) => return Err(refuse_lock(teller, dir, error)),
     }
-    match lock.note_sound(rt, rt.alloc()) {
+    if let Err(fault) = check_newest(alloc, disk) {
+        return Err(refuse_store(teller, dir, fault, disk));
+    }
+    teller.tell("a sync had failed: the newest journal is written anew\n");
+    match record_store::renew(alloc, disk) {
         Ok(()) => Ok(()),
-        Err(error) => Err(refuse_lock(teller, dir, error)),
+        Err(fault) => Err(refuse_store(teller, dir, OpenFault::Store(fault), disk)),
     }
 }
 
-/// Notes in the file of the lock that a sync has failed, if one has.
-pub fn note_failed_sync(
-    teller: Teller<'_, '_>,
-    dir: &str,
-    lock: &mut FolderLock,
-    disk: &FolderDisk<HostRuntime>,
-) {
-    if !disk.has_failed_sync() {
+/// Tells why a sync that failed could not be noted, if one could not.
+pub fn tell_note_error(teller: Teller<'_, '_>, dir: &str, disk: &FolderDisk<HostRuntime>) {
+    let Some(error) = disk.note_error() else {
         return;
+    };
+    let name = LockFile::Writing.name();
+    match format!(in teller.rt.alloc(); "{dir}/{name}") {
+        Ok(path) => {
+            let _status = teller.refuse(path.as_str(), error);
+        }
+        Err(_) => {
+            let _status = teller.out_of_memory();
+        }
     }
-    if let Err(error) = lock.note_failed_sync(teller.rt, teller.rt.alloc()) {
-        let _status = refuse_lock(teller, dir, error);
+}
+
+// Tells what was set aside when the store was opened.
+fn tell_aside(teller: Teller<'_, '_>, aside: SetAside) -> Result<(), Fault> {
+    let SetAside { number, octets } = aside;
+    match format!(in teller.rt.alloc();
+        "journal.{number}: {octets} octets behind the last batch set aside in damaged.journal.{number}\n"
+    ) {
+        Ok(line) => {
+            teller.tell(line.as_str());
+            Ok(())
+        }
+        Err(_) => Err(teller.out_of_memory()),
     }
 }
 
@@ -107,24 +121,26 @@ pub fn note_failed_sync(
 fn open_keeper(
     teller: Teller<'_, '_>,
     dir: &str,
-    lock: &mut FolderLock,
     disk: FolderDisk<HostRuntime>,
 ) -> Result<Keeper, Fault> {
-    let mut disk = disk;
-    renew(teller, dir, lock, &mut disk)?;
     match DiskKeeper::open(teller.rt.alloc(), SoundDisk { disk }) {
-        Ok(keeper) => Ok(keeper),
+        Ok(keeper) => {
+            if let Some(aside) = keeper.set_aside() {
+                tell_aside(teller, aside)?;
+            }
+            Ok(keeper)
+        }
         Err((fault, disk)) => {
-            note_failed_sync(teller, dir, lock, &disk);
+            tell_note_error(teller, dir, &disk);
             Err(refuse_store(teller, dir, fault, &disk))
         }
     }
 }
 
-/// Opens the store in a folder, which is made where it is missing.
-pub fn open_store(teller: Teller<'_, '_>, dir: &str) -> Result<(FolderLock, Keeper), Fault> {
+/// Opens the store in a folder, which is made where it is missing. Its lock is held as long as its disk.
+pub fn open_store(teller: Teller<'_, '_>, dir: &str) -> Result<Keeper, Fault> {
     let rt = teller.rt;
-    let disk = match FolderDisk::create(rt, dir) {
+    let mut disk = match FolderDisk::create(rt, dir) {
         Ok(disk) => disk,
         Err(fault) if fault.kind() == io::ErrorKind::OutOfMemory => {
             return Err(teller.out_of_memory());
@@ -136,8 +152,12 @@ pub fn open_store(teller: Teller<'_, '_>, dir: &str) -> Result<(FolderLock, Keep
         Err(LockFault::Held) => return Err(teller.refuse(dir, "another server has the store")),
         Err(LockFault::Failed(failed)) => return Err(refuse_lock(teller, dir, failed.error)),
     };
-    let keeper = open_keeper(teller, dir, &mut lock, disk)?;
-    Ok((lock, keeper))
+    renew(teller, dir, &mut lock, &mut disk)?;
+    if let Err(error) = lock.note_sound(rt.alloc()) {
+        return Err(refuse_lock(teller, dir, error));
+    }
+    disk.hold(lock);
+    open_keeper(teller, dir, disk)
 }
 
 /// Opens the file of what is refused, and tells where the end of it was cut off.

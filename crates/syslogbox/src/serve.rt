@@ -2,13 +2,13 @@
 
 use crate::flushing::Flushing;
 use crate::notes::Notes;
-use crate::opening::{Fault, Keeper, note_failed_sync, open_refused, open_store};
+use crate::opening::{Fault, Keeper, open_refused, open_store, tell_note_error};
 use crate::outputs::{Outputs, SharedNotes, SharedRefused};
 use crate::telling::Teller;
 use crate::time::ServerTime;
 use archive_pages::PagedArchive;
 use driver::{NO_MEMORY, report};
-use folder_disk::{FolderDisk, FolderLock};
+use folder_disk::FolderDisk;
 use octet_devices::ToWrite;
 use serve_engine::{ServeEnd, ServeOptions, Server};
 use server_words::{InheritedKind, ListenerWords, ServeWords};
@@ -175,7 +175,6 @@ fn collect(
     teller: Teller<'_, '_>,
     words: &ServeWords<'_>,
     source: SocketSource<'_, HostRuntime>,
-    lock: &mut FolderLock,
     keeper: Keeper,
     outputs: Outputs<'_, '_, '_>,
 ) -> Result<u8, Fault> {
@@ -191,7 +190,7 @@ fn collect(
     let status = end.status(server.counts().has_refused());
     outputs.save_last();
     let (keeper, _notes, _refused) = server.into_parts();
-    note_failed_sync(teller, words.dir, lock, keeper.disk());
+    tell_note_error(teller, words.dir, keeper.disk());
     tell_end(teller, words.dir, end, keeper.disk());
     Ok(status)
 }
@@ -199,12 +198,12 @@ fn collect(
 // Opens what is asked for, and collects.
 fn run(teller: Teller<'_, '_>, words: &ServeWords<'_>) -> Result<u8, Fault> {
     let source = open_sockets(teller, words)?;
-    let (mut lock, keeper) = open_store(teller, words.dir)?;
+    let keeper = open_store(teller, words.dir)?;
     let file = RefCell::new(open_refused(teller, words.dir)?);
     let notes = teller.notes;
     let refused = SharedRefused { file: &file };
     let outputs = Outputs { notes, refused };
-    collect(teller, words, source, &mut lock, keeper, outputs)
+    collect(teller, words, source, keeper, outputs)
 }
 
 /// Collects from sockets into a store until it is stopped, or until standard input ends if that is

@@ -1,7 +1,8 @@
 use std::test::Fail;
 use syslog_frame::{
-    EndFault, FRAME_MAX, Framing, MsgLen, PiecesFault, PutFault, Ready, ScanFault, Scanner,
-    StartFault, StreamEnd, frames_of_pieces, msg_len, put_frame, trimmed,
+    EndFault, FRAME_MAX, Framing, GrowFault, GrowingScanner, MsgLen, PiecesFault, PutFault,
+    ROOM_KEPT, Ready, ScanFault, Scanner, StartFault, StreamEnd, frames_of_pieces, msg_len,
+    put_frame, trimmed,
 };
 
 const RECORD: &[u8] = b"<0>1 - - - - - -";
@@ -132,6 +133,39 @@ fn a_line_above_the_limit_is_told_once(rt: HostRuntime) -> Result<(), Fail> {
     );
     assert_eq!(rt; scanner.push(b"\n"), Ok(1));
     assert_eq!(rt; scanner.ready(), Some(Ready::Frame(RECORD)));
+    Ok(())
+}
+
+#[test]
+fn room_that_grows_holds_every_frame(rt: HostRuntime) -> Result<(), Fail> {
+    let mut scanner = GrowingScanner::new(rt.alloc(), Framing::Lf);
+    for size in [0, 1, ROOM_KEPT, ROOM_KEPT + 1, FRAME_MAX, FRAME_MAX + 1, 5] {
+        let line = vec![in rt.alloc(); b'a'; size]?;
+        for piece in line.chunks(1_000) {
+            assert_eq!(rt; scanner.push(piece), Ok(piece.len()));
+        }
+        assert_eq!(rt; scanner.push(b"\nb"), Ok(1));
+        if size <= FRAME_MAX {
+            assert_eq!(rt; scanner.ready(), Some(Ready::Frame(line.as_slice())));
+        } else {
+            assert_eq!(rt; scanner.ready(), Some(Ready::TooLong));
+        }
+        assert!(rt; scanner.release());
+        assert_eq!(rt; scanner.end(), Ok(()));
+    }
+    Ok(())
+}
+
+#[test]
+fn a_scanner_that_grows_meets_bad_counts(rt: HostRuntime) -> Result<(), Fail> {
+    let mut scanner = GrowingScanner::new(rt.alloc(), Framing::Counted);
+    assert_eq!(rt; scanner.push(b"2 ab02 "), Ok(4));
+    assert_eq!(rt; scanner.ready(), Some(Ready::Frame(b"ab")));
+    assert!(rt; scanner.release());
+    assert_eq!(rt; scanner.push(b"02 "), Ok(0));
+    assert_eq!(rt; scanner.ready(), Some(Ready::BadCount { at: 4 }));
+    assert!(rt; scanner.release());
+    assert_eq!(rt; scanner.push(b"2 ab"), Err(GrowFault::Failed));
     Ok(())
 }
 

@@ -273,3 +273,56 @@ fn archives_of_two_routes_are_joined(rt: HostRuntime) -> Result<(), Fail> {
     assert_eq!(rt; ran.output.as_slice(), ACB);
     Ok(())
 }
+
+// three records: of no host, of fw-1, and of web
+const HOSTS: &[u8] =
+    b"24 <13>1 - - cron - - - end30 <13>1 - fw-1 sshd - - - Failed28 <13>1 - web su - - - one two";
+
+#[test]
+fn records_that_meet_conditions_are_selected(rt: HostRuntime) -> Result<(), Fail> {
+    let rows: [(&[&str], &[u8]); 10] = [
+        (
+            &["select", "--host", "fw-1"],
+            b"30 <13>1 - fw-1 sshd - - - Failed",
+        ),
+        (
+            &["select", "--host", "fw-1", "--host", "-"],
+            b"24 <13>1 - - cron - - - end30 <13>1 - fw-1 sshd - - - Failed",
+        ),
+        (
+            &["select", "--not-host", "fw-1", "--not-host", "web"],
+            b"24 <13>1 - - cron - - - end",
+        ),
+        (
+            &["select", "--not-host=-"],
+            b"30 <13>1 - fw-1 sshd - - - Failed28 <13>1 - web su - - - one two",
+        ),
+        (
+            &["select", "--host-like", "*w*"],
+            b"30 <13>1 - fw-1 sshd - - - Failed28 <13>1 - web su - - - one two",
+        ),
+        (
+            &["select", "--host-like", "w?b", "--app-like", "*s*"],
+            b"28 <13>1 - web su - - - one two",
+        ),
+        (
+            &["select", "--message", "e", "--app", "sshd"],
+            b"30 <13>1 - fw-1 sshd - - - Failed",
+        ),
+        (
+            &["select", "--message", "e t", "--message", "nd"],
+            b"24 <13>1 - - cron - - - end28 <13>1 - web su - - - one two",
+        ),
+        (
+            &["select", "--not-message", "n", "--not-app", "su"],
+            b"30 <13>1 - fw-1 sshd - - - Failed",
+        ),
+        (&["select", "--host=web", "--not-app=su"], b""),
+    ];
+    for (words, output) in rows {
+        let ran = run_over(&rt, words, HOSTS)?;
+        assert_eq!(rt; ran.status, DONE);
+        assert_eq!(rt; ran.output.as_slice(), output);
+    }
+    Ok(())
+}

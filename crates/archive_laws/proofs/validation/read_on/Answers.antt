@@ -3,8 +3,9 @@ use Rattle.std.proofs.lemmas.Bool.{false≢true}
 use Rattle.archive_text.specs.EntryViews.{entry_of}
 use Rattle.archive_text.specs.Positions.{position_of}
 use Rattle.archive_text.specs.declared.limits.TheConstants.{ENTRY_MAX}
-use Rattle.archive_laws.proofs.Judged.{position_within, read_fault, read_more, read_not_above}
+use Rattle.archive_laws.proofs.Judged.{read_fault, read_more, read_not_above}
 use Rattle.archive_laws.proofs.validation.read_on.Goals as goal
+use Rattle.archive_text.proofs.FaultLaws.{position_within}
 
 pub returns-in-Err-clause-read : goal.returns-in-Err-clause-read
 returns-in-Err-clause-read c =

@@ -1,4 +1,4 @@
-use Rattle.std.proofs.Common.{ℕ, ◌+◌, ◌-◌, length, ap, ◌∙◌}
+use Rattle.std.proofs.Common.{ℕ, ◌+◌, ◌-◌, length, ap, refl, ◌∙◌}
 use Rattle.syslog_fields.specs.Canonical.{word_form}
 use Rattle.syslog_reading.specs.ViewParts.{view_parts}
 use Rattle.c_library.proofs.Laying.{ends_lies, laid, word_later, word_lies}
@@ -27,4 +27,12 @@ returns c =
       proc_id = word_lies b _ s.proc_id _ two;
       msg_id = word_lies b _ s.msg_id _ three;
       structured_data = ends_lies b s.elements l.end _ four;
+      hostname_is = refl;
+      app_name_is = c.behind_word-app_name.ensures ∙ ap (λ w. at + length (word_form w) + 1) c.hostname.ensures;
+      proc_id_is = c.behind_word-proc_id.ensures
+          ∙ ap (λ w. c.behind_word-app_name.result + length (word_form w) + 1) c.app_name.ensures;
+      msg_id_is = c.behind_word-msg_id.ensures
+          ∙ ap (λ w. c.behind_word-proc_id.result + length (word_form w) + 1) c.proc_id.ensures;
+      structured_data_is = c.behind_word-structured_data.ensures
+          ∙ ap (λ w. c.behind_word-msg_id.result + length (word_form w) + 1) c.msg_id.ensures;
     }

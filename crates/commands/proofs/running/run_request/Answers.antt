@@ -23,6 +23,12 @@ returns-in-Select-clause-unread g c = λ no. absurd (no (rw c.in-Select.is tt))
 pub returns-in-Digest-clause-ran : goal.returns-in-Digest-clause-ran
 returns-in-Digest-clause-ran g c = rw c.in-Digest.is c.digest_archive.ensures
 
+pub returns-in-Root-clause-ran : goal.returns-in-Root-clause-ran
+returns-in-Root-clause-ran g c = rw c.in-Root.is c.root_archive.ensures
+
+pub returns-in-Root-clause-unread : goal.returns-in-Root-clause-unread
+returns-in-Root-clause-unread g c = λ no. absurd (no (rw c.in-Root.is tt))
+
 pub returns-in-Digest-clause-unread : goal.returns-in-Digest-clause-unread
 returns-in-Digest-clause-unread g c = λ no. absurd (no (rw c.in-Digest.is tt))
 

@@ -1,9 +1,10 @@
-use Rattle.std.proofs.Common.{ℕ, List, refl, rules, subst}
+use Rattle.std.proofs.Common.{◌≢◌, [], ℕ, List, arith, refl, rules, subst}
+use Rattle.std.proofs.lemmas.Grind.{common_steps}
 use Rattle.archive_pages.specs.Paged.{entries_in}
 use Rattle.durable_store.specs.Recovery.{BeginsWithSome, Refutes}
 use Rattle.record_store.specs.Holdings.{IsReadable}
 use Rattle.record_store.specs.Seals.{HasMore, Seals}
-use Rattle.durable_store.proofs.Recovered.{batch_begun, batch_more, batch_whole, shorter}
+use Rattle.durable_store.proofs.Recovered.{batch_begun, batch_more, batch_sealed, batch_whole, shorter}
 use Rattle.durable_store.proofs.Readable.{at_err, batch_read, next_begins, not_sealed, read_text, refutes_more}
 use Rattle.durable_store.proofs.recovery.add_batch.Goals as goal
 
@@ -65,3 +66,18 @@ returns-in_err-rest-clause-fault c =
     (λ h. next_begins (entries_in c.args.set.now) (entries_in c.entries.set) c.args.body.now c.entries.rest.now
     c.entries.invariant some h)
     c.in_err-rest.ensures.fault)
+
+pub returns-then-seals-clause-sealed : goal.returns-then-seals-clause-sealed
+returns-then-seals-clause-sealed c =
+    let old = entries_in c.args.set.now in
+    let new = entries_in c.entries.set in
+    let body = c.args.body.now in
+    let rest = c.entries.rest.now in
+    let b = c.entries.invariant in
+    let text = read_text old new body rest b c.split_at.result.0.now c.saturating_sub-read-2.result
+    c.saturating_sub-read-2.ensures c.split_at.ensures.front in
+    let both = batch_sealed old new body rest b
+    (subst (λ (t : List ℕ). Seals t rest) text (c.seals.ensures.0 c.if-seals.true)) in (
+      λ on. both.1 (λ none. first_of (search rules, grind (arith, common_steps))),
+      λ sealed. let some : c.entries.rest.now ≢ [] = both.0 sealed in first_of (search rules, grind (arith, common_steps)),
+    )

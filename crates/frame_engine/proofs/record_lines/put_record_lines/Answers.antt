@@ -2,8 +2,8 @@ use Rattle.std.proofs.Common.{◌≡◌, ◌∙◌, ℕ, ap, take, length, rules
 use Rattle.frame_engine.specs.Showing.{RecordLines}
 use Rattle.syslog_fields.proofs.Appends.{adds_prefix, puts_begun}
 use Rattle.syslog_fields.specs.Appending.{Anything}
-use Rattle.frame_engine.proofs.ShowLemmas.{always_err}
 use Rattle.frame_engine.proofs.record_lines.put_record_lines.Goals as goal
+use Rattle.record_json.proofs.WholeLines.{always_err}
 
 pub returns-then-is_err-clause-err : goal.returns-then-is_err-clause-err
 returns-then-is_err-clause-err c =

@@ -1,11 +1,12 @@
-use Rattle.std.proofs.Common.{◌≡◌, List, ℕ, [], None, refl, subst}
+use Rattle.std.proofs.Common.{◌≡◌, [], None, refl, subst}
 use Rattle.std.specs.Prelude.{ℤ, OnOk, if◌then◌else◌, option_map}
 use Rattle.syslog_value.specs.Parts.{AnyOctets, Parts, Utf8Text}
 use Rattle.syslog_fields.specs.Appending.{Adds}
 use Rattle.syslog_legacy.specs.Views.{legacy_view_parts}
 use Rattle.record_json.specs.Objects.{JsonLine}
-use Rattle.frame_engine.proofs.ShowJsonLemmas.{legacy_is, same_message}
+use Rattle.frame_engine.proofs.ShowJsonLemmas.{same_message}
 use Rattle.frame_engine.proofs.show_json.put_legacy_line.Goals as goal
+use Rattle.syslog_value.specs.EqualityLaws.{same_record}
 
 pub returns-clause-ok : goal.returns-clause-ok
 returns-clause-ok c =
@@ -20,7 +21,7 @@ returns-clause-ok c =
       elements = [];
       message = if c.has_mark.result then Utf8Text c.message.result.now else AnyOctets c.message.result.now;
     } in
-    let whole : r ≡ q = legacy_is r q c.priority.ensures c.instant.ensures c.hostname.ensures c.app_name.ensures
+    let whole : r ≡ q = same_record r q c.priority.ensures c.instant.ensures c.hostname.ensures c.app_name.ensures
     c.proc_id.ensures refl refl
     (same_message q.message c.message.result.now c.has_mark.result c.message.ensures c.has_mark.ensures) in
     subst (λ (p : Parts ℤ). OnOk c.put_lent_line.result

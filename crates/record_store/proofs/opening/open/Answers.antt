@@ -1,8 +1,9 @@
 use Rattle.std.proofs.Common.{◌<◌, ◌^◌, inl, inr, List, ℕ, sym, ◌∙◌, arith, subst}
-use Rattle.std.proofs.lemmas.Result.{IfOk-weaker, err_from_is_err_and}
+use Rattle.std.proofs.lemmas.Result.{IfOk-weaker, err_from_is_err_and, on_ok_weaker}
 use Rattle.std.specs.Prelude.{Option, Some, None, IfErr}
 use Rattle.record_store.specs.Causes.{IsCause, first_causes, newest_causes, opening_causes}
 use Rattle.record_store.specs.Names.{IsNewest}
+use Rattle.record_store.proofs.Asides.{files_after, files_unchanged}
 use Rattle.record_store.proofs.Batches.{nothing_has}
 use Rattle.record_store.proofs.Causing.{cause_weaker, disk_cause, result_weaker}
 use Rattle.record_store.proofs.Covering.{unchanged_keeps}
@@ -227,3 +228,42 @@ returns-in_err-begin-in-None-clause-cause g c =
     let none = none_still zero one same (none_newest zero c.in-Ok.names.items sound (c.in-Ok.ensures.names told) newest) in
     other tells none)
     (λ long. absurd long) (λ broken. broken) fault.0 first)
+
+pub returns-in-Err-clause-files : goal.returns-in-Err-clause-files
+returns-in-Err-clause-files g c tells =
+    files_unchanged (g.D.Disk.state c.args.disk.now) (g.D.Disk.state c.names.new.self) (c.names.ensures.done tells)
+
+pub returns-in-Some-clause-files : goal.returns-in-Some-clause-files
+returns-in-Some-clause-files g c tells =
+    files_after (g.D.Disk.state c.args.disk.now) (g.D.Disk.state c.names.new.self) (g.D.Disk.state c.open_journal.new.disk)
+    (c.names.ensures.done (c.open_journal.ensures.told tells)) (c.open_journal.ensures.files tells)
+
+pub returns-in_err-begin-in-None-clause-files : goal.returns-in_err-begin-in-None-clause-files
+returns-in_err-begin-in-None-clause-files g c tells =
+    files_after (g.D.Disk.state c.args.disk.now) (g.D.Disk.state c.names.new.self) (g.D.Disk.state c.begin.new.disk)
+    (c.names.ensures.done (c.begin.ensures.told tells)) (c.begin.ensures.files tells)
+
+pub returns-clause-files : goal.returns-clause-files
+returns-clause-files g c tells =
+    files_after (g.D.Disk.state c.args.disk.now) (g.D.Disk.state c.names.new.self) (g.D.Disk.state c.begin.new.disk)
+    (c.names.ensures.done (c.begin.ensures.told tells)) (c.begin.ensures.files tells)
+
+pub returns-clause-sound : goal.returns-clause-sound
+returns-clause-sound g c tells sound =
+    let told = c.begin.ensures.told tells in
+    c.in_ok-begin-in-None.ensures.sound tells ((c.names.ensures.done told).lost ∙ sound)
+
+pub returns-in-Some-clause-sound : goal.returns-in-Some-clause-sound
+returns-in-Some-clause-sound g c =
+    let zero = g.D.Disk.state c.args.disk.now in
+    let one = g.D.Disk.state c.names.new.self in
+    let number = c.in-Some.number in
+    let small : number < 2 ^ 64 = omega arith in
+    let newest = subst (λ (l : List (List ℕ)). IsNewest l (Some number)) c.deref.ensures.value
+    (subst (λ (o : Option ℕ). IsNewest c.deref.result.now o) c.in-Some.is c.newest.ensures) in
+    on_ok_weaker c.open_journal.result (λ sounds tells sound.
+    let told = c.open_journal.ensures.told tells in
+    let same = c.names.ensures.done told in
+    let found = newest_of zero c.in-Ok.names.items sound (c.in-Ok.ensures.names told) number small newest in
+    sounds tells (same.lost ∙ sound) found.0 (newest_still zero one same number found.0 found.1))
+    c.open_journal.ensures.sound

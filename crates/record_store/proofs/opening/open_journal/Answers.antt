@@ -1,6 +1,7 @@
-use Rattle.std.proofs.Common.{List, ℕ, refl, subst}
+use Rattle.std.proofs.Common.{◌<◌, ◌^◌, List, ℕ, arith, refl, subst}
 use Rattle.record_store.specs.Causes.{newest_causes, shown_causes}
 use Rattle.record_store.specs.Shown.{ShowsTheBatches}
+use Rattle.record_store.proofs.Asides.{named_journal, others_files}
 use Rattle.record_store.proofs.Causing.{journal_weaker}
 use Rattle.record_store.proofs.Opened.{newest_is_journal, newest_shown, opened_gives, opened_stands}
 use Rattle.record_store.proofs.Showing.{batches_within}
@@ -84,3 +85,24 @@ returns-in-Err-clause-cause g c =
       long = long tells sound octets (newest_shown zero new c.args.number octets newest name c.in_ok-name.ensures);
     })
     c.in-Err.fault c.in-Err.ensures.cause
+
+pub returns-in-Ok-clause-files : goal.returns-in-Ok-clause-files
+returns-in-Ok-clause-files g c tells =
+    let small : c.args.number < 2 ^ 64 = omega (arith, c.ranges.number.fits) in
+    others_files (g.D.Disk.state c.args.disk.now) (g.D.Disk.state c.open_shown.new.disk) c.in_ok-name.name
+    (named_journal c.args.number c.in_ok-name.name small c.in_ok-name.ensures) (c.open_shown.ensures.others tells)
+
+pub returns-in-Err-clause-files : goal.returns-in-Err-clause-files
+returns-in-Err-clause-files g c tells =
+    let small : c.args.number < 2 ^ 64 = omega (arith, c.ranges.number.fits) in
+    others_files (g.D.Disk.state c.args.disk.now) (g.D.Disk.state c.open_shown.new.disk) c.in_ok-name.name
+    (named_journal c.args.number c.in_ok-name.name small c.in_ok-name.ensures) (c.open_shown.ensures.others tells)
+
+pub returns-in-Ok-clause-sound : goal.returns-in-Ok-clause-sound
+returns-in-Ok-clause-sound g c tells sound octets newest =
+    let zero = g.D.Disk.state c.args.disk.now in
+    let new = g.D.Disk.state c.open_shown.new.disk in
+    let name = c.in_ok-name.name in
+    let shown = newest_shown zero new c.args.number octets newest name c.in_ok-name.ensures in
+    let opens = c.in-Ok.ensures.opened tells sound octets shown in
+    opens.stands.sound

@@ -1,4 +1,5 @@
 use Rattle.record_store.specs.Causes.{shown_causes}
+use Rattle.record_store.proofs.Asides.{others_then}
 use Rattle.record_store.proofs.Causing.{journal_cause}
 use Rattle.record_store.proofs.Opened.{open_keeps, open_shows, settle_keeps, settled_on_disk, settled_shows}
 use Rattle.record_store.proofs.opening.open_shown.Goals as goal
@@ -49,3 +50,8 @@ returns-clause-cause g c =
     let told = c.open.ensures.told tells in
     c.open.ensures.too_long tells long octets (settled_on_disk (g.D.Disk.state c.args.disk.now)
     (g.D.Disk.state c.settle.new.disk) c.args.name octets sound shown (c.in_default.ensures.on_disk told)))
+
+pub returns-clause-others : goal.returns-clause-others
+returns-clause-others g c tells =
+    others_then (g.D.Disk.state c.args.disk.now) (g.D.Disk.state c.settle.new.disk) (g.D.Disk.state c.open.new.disk)
+    c.args.name (c.settle.ensures.others (c.open.ensures.told tells)) (c.open.ensures.others tells)

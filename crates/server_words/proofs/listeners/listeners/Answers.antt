@@ -3,9 +3,11 @@ use Rattle.std.specs.Prelude.{IfOk, Option}
 use Rattle.std.specs.Result.{result_ok}
 use Rattle.std.proofs.lemmas.Result.{IfOk-weaker}
 use Rattle.clap.specs.Words.{found_of, rows_of}
-use Rattle.server_words.specs.Listeners.{ListenerAsked, all_asked, all_given, listener_asked}
+use Rattle.server_words.specs.Listeners.{ListenerAsked, all_asked, listener_asked}
+use Rattle.option_values.specs.Values.{all_given}
 use Rattle.server_words.specs.declared.listeners.ListenerOption.TheVariants.{Udp, Counted, Lf, Unix, Inherited}
-use Rattle.server_words.proofs.ListenerLemmas.{behind, five_options}
+use Rattle.option_values.proofs.GivenLemmas.{behind}
+use Rattle.server_words.proofs.ListenerLemmas.{five_options}
 use Rattle.server_words.proofs.listeners.listeners.Goals as goal
 use Rattle.std.proofs.Common.{[], ◌∷◌}
 

@@ -3,8 +3,9 @@ use Rattle.std.specs.Prelude.{IfOk, Option, unwrap_or}
 use Rattle.std.specs.Result.{result_ok}
 use Rattle.clap.specs.Walk.{Text, all_of}
 use Rattle.clap.specs.Words.{found_of, rows_of}
-use Rattle.server_words.specs.Listeners.{ListenerAsked, all_given, listener_asked, listener_of}
-use Rattle.server_words.proofs.ListenerLemmas.{behind, map_now}
+use Rattle.server_words.specs.Listeners.{ListenerAsked, listener_asked, listener_of}
+use Rattle.option_values.specs.Values.{all_given}
+use Rattle.option_values.proofs.GivenLemmas.{behind, map_now}
 use Rattle.server_words.proofs.listeners.with_option.Goals as goal
 
 pub returns-in-Some : goal.returns-in-Some

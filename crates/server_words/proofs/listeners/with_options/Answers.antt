@@ -1,9 +1,11 @@
 use Rattle.std.proofs.Common.{◌∙◌, ◌+◌, List, Option, Vec, Global, ap, arith, drop, get_or, map, sym}
 use Rattle.std.specs.Result.{result_ok}
 use Rattle.clap.specs.Words.{found_of, rows_of}
-use Rattle.server_words.specs.Listeners.{ListenerAsked, all_asked, all_given, asked_in, listener_asked}
+use Rattle.server_words.specs.Listeners.{ListenerAsked, all_asked, asked_in, listener_asked}
+use Rattle.option_values.specs.Values.{all_given}
 use Rattle.server_words.specs.declared.listeners.ListenerWords.{ListenerWords}
-use Rattle.server_words.proofs.ListenerLemmas.{behind, next_found, next_option, next_refused, none_left}
+use Rattle.option_values.proofs.GivenLemmas.{behind, next_found, next_refused}
+use Rattle.server_words.proofs.ListenerLemmas.{next_option, none_left}
 use Rattle.server_words.proofs.listeners.with_options.Goals as goal
 
 -- what these listeners are asked by

@@ -1,7 +1,8 @@
 use Rattle.std.proofs.Common.{◌≡◌, drop, map}
 use Rattle.clap.specs.Words.{found_of, rows_of}
-use Rattle.server_words.proofs.ListenerLemmas.{behind}
-use Rattle.server_words.specs.Listeners.{all_asked, all_given, listener_asked}
+use Rattle.option_values.proofs.GivenLemmas.{behind}
+use Rattle.server_words.specs.Listeners.{all_asked, listener_asked}
+use Rattle.option_values.specs.Values.{all_given}
 use Rattle.server_words.proofs.listeners.with_options.Given as goal
 
 -- the listeners so far, and those of the options that are left

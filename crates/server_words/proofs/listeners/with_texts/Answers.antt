@@ -1,7 +1,7 @@
 use Rattle.std.proofs.Common.{◌∙◌, [], ◌∷◌, Some, ap, map, option_map, sym}
 use Rattle.std.proofs.lemmas.List.{map-append}
 use Rattle.server_words.specs.Listeners.{listener_asked, listener_of}
-use Rattle.server_words.proofs.ListenerLemmas.{behind, given_more, given_none}
+use Rattle.option_values.proofs.GivenLemmas.{behind, given_more, given_none}
 use Rattle.server_words.proofs.listeners.with_texts.Goals as goal
 
 pub returns-in_default : goal.returns-in_default

@@ -1,6 +1,7 @@
 use Rattle.std.proofs.Common.{◌≡◌, Some, map, take}
-use Rattle.server_words.proofs.ListenerLemmas.{behind}
-use Rattle.server_words.specs.Listeners.{all_given, listener_asked, listener_of}
+use Rattle.option_values.proofs.GivenLemmas.{behind}
+use Rattle.server_words.specs.Listeners.{listener_asked, listener_of}
+use Rattle.option_values.specs.Values.{all_given}
 use Rattle.server_words.proofs.listeners.with_texts.Given as goal
 
 -- the listeners are those of the texts so far, behind those that there were

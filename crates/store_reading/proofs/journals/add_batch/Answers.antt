@@ -1,12 +1,14 @@
-use Rattle.std.proofs.Common.{◌≡◌, IsTrue, arith, false, rules}
+use Rattle.std.proofs.Common.{◌≡◌, ◌≢◌, ◌++◌, [], IsTrue, List, arith, false, rules, ℕ}
+use Rattle.record_store.specs.Holdings.{IsSealedBatch}
+use Rattle.record_store.specs.Seals.{Seals}
 use Rattle.store_reading.specs.Sources.{set_entries}
 use Rattle.store_reading.specs.Damages.{IsDamagedBatch, Tells}
 use Rattle.store_reading.specs.declared.fault.CheckFault.{CheckFault}
-use Rattle.store_reading.proofs.Batched.{batch_begun, batch_more, batch_read, batch_whole, no_more}
+use Rattle.store_reading.proofs.Batched.{batch_begun, batch_more, batch_read, batch_sealed, batch_whole, no_more}
 use Rattle.store_reading.proofs.Causing.{at_err}
 use Rattle.store_reading.proofs.Damaged.{batch_damaged, seal_result}
 use Rattle.store_reading.proofs.Parted.{shorter}
-use Rattle.store_reading.proofs.Whole.{on_ok_more}
+use Rattle.store_reading.proofs.Whole.{on_ok_more, sealed_more}
 use Rattle.store_reading.proofs.journals.add_batch.Goals as goal
 
 pub entries-init : goal.entries-init
@@ -35,6 +37,15 @@ returns-clause-whole c =
     on_ok_more c.check_seal.result
     (λ sealed. batch_read (set_entries c.args.set.now) (set_entries c.entries.set) c.args.body.now c.entries.rest.now b
     (sealed _ b.parts)) c.check_seal.ensures.sealed
+
+pub returns-clause-sealed : goal.returns-clause-sealed
+returns-clause-sealed c =
+    let b = c.entries.invariant in
+    sealed_more c.check_seal.result
+    ((text : List ℕ) → c.args.body.now ≡ text ++ c.entries.rest.now → Seals text c.entries.rest.now)
+    (c.entries.rest.now ≢ []) (IsSealedBatch c.args.body.now)
+    (λ seals. batch_sealed (set_entries c.args.set.now) (set_entries c.entries.set) c.args.body.now c.entries.rest.now b
+    (seals _ b.parts)) c.check_seal.ensures.sealed c.check_seal.ensures.some
 
 pub returns-clause-damaged : goal.returns-clause-damaged
 returns-clause-damaged c =

@@ -1,7 +1,9 @@
-use Rattle.std.proofs.Common.{◌+◌, length, inl, refl, arith}
-use Rattle.syslog_collect.proofs.Hearing.{hears_advanced, hears_waiting}
-use Rattle.syslog_collect.proofs.Moving.{advanced, good_unless_failed, pushed, released, too_long, waiting}
-use Rattle.syslog_collect.proofs.Moving.{waiting_record}
+use Rattle.std.proofs.Common.{◌≡◌, ◌+◌, length, inl, inr, refl, arith, ap}
+use Rattle.syslog_frame.specs.Scan.{Scan}
+use Rattle.syslog_collect.specs.declared.connection.Connection.{Connection}
+use Rattle.syslog_collect.proofs.Hearing.{hears_advanced, hears_no_room, hears_waiting}
+use Rattle.syslog_collect.proofs.Moving.{advanced, good_unless_failed, moved_none, pushed, released, too_long}
+use Rattle.syslog_collect.proofs.Moving.{waiting, waiting_record}
 use Rattle.syslog_collect.proofs.Pieces.{met_at_once}
 use Rattle.syslog_collect.proofs.Taking.{ends_frame, in_turn, some_taken, stops_right}
 use Rattle.syslog_collect.proofs.Waiting.{ready_none}
@@ -10,14 +12,14 @@ use Rattle.syslog_collect.proofs.advancing.advance_connection.Goals as goal
 pub returns-in-Err-StreamTooLong-clause-cause : goal.returns-in-Err-StreamTooLong-clause-cause
 returns-in-Err-StreamTooLong-clause-cause g c s handled at =
     let long = c.in-Err-StreamTooLong.ensures.too_long.0 (rw c.in-Err-StreamTooLong.field-0-is refl) in
-    too_long c.args.connection.now s handled c.args.piece.now long.0 long.1 at
+    inr (too_long c.args.connection.now s handled c.args.piece.now long.0 long.1 at)
 
 pub returns-in_default-clause-cause : goal.returns-in_default-clause-cause
 returns-in_default-clause-cause g c s handled at =
     let e = c.in-Ok.ensures in
-    waiting_record c.args.reading c.args.connection.now c.push.new.self s handled c.args.piece.now c.in-Ok.used
+    inr (waiting_record c.args.reading c.args.connection.now c.push.new.self s handled c.args.piece.now c.in-Ok.used
     (pushed _ _ c.args.piece.now c.in-Ok.used e.failed e.too_long e.waits e.within e.position e.bound e.reads e.takes)
-    c.in_default.ensures.spelled at
+    c.in_default.ensures.spelled at)
 
 pub returns-in_default-clause-moves : goal.returns-in_default-clause-moves
 returns-in_default-clause-moves g c s handled at =
@@ -38,7 +40,7 @@ returns-clause-cause g c s handled at =
     let e = c.in-Ok.ensures in
     let p = pushed _ _ c.args.piece.now c.in-Ok.used e.failed e.too_long e.waits e.within e.position e.bound e.reads
     e.takes in
-    good_unless_failed c.args.connection.now s handled p.live at
+    inr (good_unless_failed c.args.connection.now s handled p.live at)
 
 pub returns-clause-moves : goal.returns-clause-moves
 returns-clause-moves g c s handled at =
@@ -69,11 +71,11 @@ returns-clause-progress g c =
 pub returns-in-Err-StreamTooLong-clause-taken : goal.returns-in-Err-StreamTooLong-clause-taken
 returns-in-Err-StreamTooLong-clause-taken g c s handled at =
     let long = c.in-Err-StreamTooLong.ensures.too_long.0 (rw c.in-Err-StreamTooLong.field-0-is refl) in
-    ready_none c.args.connection.now.scanner.phase (λ frame. long.0.0 (inl frame))
+    inr (ready_none c.args.connection.now.scanner.phase (λ frame. long.0.0 (inl frame)))
 
 pub returns-in_default-clause-taken : goal.returns-in_default-clause-taken
 returns-in_default-clause-taken g c s handled at =
-    let e = c.in-Ok.ensures in (
+    let e = c.in-Ok.ensures in inr (
       in_turn c.args.connection.now s handled c.args.piece.now c.in-Ok.used
           (λ f. let e = c.in-Ok.ensures.failed.1 f in absurd (cc))
           (λ long. let e = c.in-Ok.ensures.too_long.1 long in absurd (cc))
@@ -88,7 +90,7 @@ returns-in_default-clause-taken g c s handled at =
 
 pub returns-clause-taken : goal.returns-clause-taken
 returns-clause-taken g c s handled at =
-    let e = c.in-Ok.ensures in (
+    let e = c.in-Ok.ensures in inr (
       in_turn c.args.connection.now s handled c.args.piece.now c.in-Ok.used
           (λ f. let e = c.in-Ok.ensures.failed.1 f in absurd (cc))
           (λ long. let e = c.in-Ok.ensures.too_long.1 long in absurd (cc))
@@ -116,3 +118,57 @@ returns-clause-hears g c s handled at =
     (pushed _ _ c.args.piece.now c.in-Ok.used e.failed e.too_long e.waits e.within e.position e.bound e.reads e.takes)
     c.in-Ok-handle_ready.ensures.handles c.in-Ok-handle_ready.ensures.tells
     (released _ _ c.release.result r.value r.same r.frame r.failed r.reads) (λ lt. (lt, omega arith)) at
+
+-- ---- where room is refused
+
+rebuilt : (c : Connection) (z : Scan) → z ≡ c.scanner → ◌≡◌ {A = Connection} (record c { scanner = z }) c
+rebuilt c z e = ap (λ (w : Scan). record c { scanner = w }) e
+
+pub returns-in-Err-Memory-clause-waits : goal.returns-in-Err-Memory-clause-waits
+returns-in-Err-Memory-clause-waits g c =
+    let m = c.in-Err-Memory.ensures.memory (rw c.in-Err-Memory.field-0-is refl) in
+    inl (record {
+      fault_is = refl;
+      same = rebuilt c.args.connection.now c.push.new.self c.in-Err-Memory.ensures.same;
+      reading = m.0;
+      grows = m.1;
+    })
+
+pub returns-in-Err-Memory-clause-taken : goal.returns-in-Err-Memory-clause-taken
+returns-in-Err-Memory-clause-taken g c s handled at =
+    let m = c.in-Err-Memory.ensures.memory (rw c.in-Err-Memory.field-0-is refl) in
+    inl (record {
+      fault_is = refl;
+      same = rebuilt c.args.connection.now c.push.new.self c.in-Err-Memory.ensures.same;
+      reading = m.0;
+      grows = m.1;
+    })
+
+pub returns-in-Err-Memory-clause-cause : goal.returns-in-Err-Memory-clause-cause
+returns-in-Err-Memory-clause-cause g c s handled at =
+    let m = c.in-Err-Memory.ensures.memory (rw c.in-Err-Memory.field-0-is refl) in
+    inl (record {
+      fault_is = refl;
+      same = rebuilt c.args.connection.now c.push.new.self c.in-Err-Memory.ensures.same;
+      reading = m.0;
+      grows = m.1;
+    })
+
+pub returns-in-Err-Memory-clause-moves : goal.returns-in-Err-Memory-clause-moves
+returns-in-Err-Memory-clause-moves g c s handled at =
+    let m = c.in-Err-Memory.ensures.memory (rw c.in-Err-Memory.field-0-is refl) in
+    moved_none c.args.reading c.args.connection.now _ _ _ c.args.piece.now s handled
+    (rebuilt c.args.connection.now c.push.new.self c.in-Err-Memory.ensures.same) m.0 m.2 refl at
+
+pub returns-in-Err-Memory-clause-drops : goal.returns-in-Err-Memory-clause-drops
+returns-in-Err-Memory-clause-drops g c s handled at =
+    let m = c.in-Err-Memory.ensures.memory (rw c.in-Err-Memory.field-0-is refl) in
+    moved_none c.args.reading c.args.connection.now _ _ _ c.args.piece.now s handled
+    (rebuilt c.args.connection.now c.push.new.self c.in-Err-Memory.ensures.same) m.0 m.2 refl at
+
+pub returns-in-Err-Memory-clause-hears : goal.returns-in-Err-Memory-clause-hears
+returns-in-Err-Memory-clause-hears g c s handled at =
+    let m = c.in-Err-Memory.ensures.memory (rw c.in-Err-Memory.field-0-is refl) in
+    let kept = g.S.Store.entries c.args.store.now in
+    hears_no_room (g.O.Observer.observes) c.args.reading c.args.connection.now _ kept kept c.args.piece.now s handled _ _
+    (rebuilt c.args.connection.now c.push.new.self c.in-Err-Memory.ensures.same) m.0 m.2 refl refl at

@@ -38,6 +38,7 @@ pub pieces-init : goal.pieces-init
 pieces-init g c = record {
   within = omega arith;
   number = refl;
+  reserved = refl;
   so_far = λ s d at. logs_nothing c.args.reading _ _ _ _ s d refl;
   heard = λ s d at. hears_nothing (g.O.Observer.observes) _ _ _ s d _ _ refl refl at;
   goes_on = λ s d at. inl refl;
@@ -52,6 +53,7 @@ pieces-preserved g c =
     record {
       within = omega (arith, within_rest p n m c.pieces.invariant.within c.in-On.ensures.within);
       number = c.in-On.ensures.number ∙ c.pieces.invariant.number;
+      reserved = c.in-On.ensures.reserved ∙ c.pieces.invariant.reserved;
       so_far = λ s d at.
           logs_on c.args.reading c.args.connection.now c.pieces.connection c.take_step.new.connection
           (g.S.Store.entries c.args.store.now) (g.S.Store.entries c.pieces.store)

@@ -12,6 +12,7 @@ abbrev pub invariant-pieces : goal.invariant-pieces
 invariant-pieces g l = record {
   within : l.taken ≤ length l.piece;
   number : l.connection.number ≡ l.fn.connection.number;
+  reserved : l.connection.scanner.reserved ≡ l.fn.connection.scanner.reserved;
   so_far : (s : Stream) (d : List (List ℕ)) → IsAt l.fn.connection s d →
       Logs l.fn.reading l.fn.connection l.connection (g.S.Store.entries l.fn.store) (g.S.Store.entries l.store)
       (take l.taken l.piece) l.fn.log.items l.log.items s d;

@@ -1,5 +1,5 @@
 use Rattle.std.proofs.Common.{◌≡◌, ◌≤◌, List, ◌++◌, length, inl, inr, ap, ◌∙◌, arith, refl}
-use Rattle.std.specs.Prelude.{◌⊎◌, Bool, false, IsTrue}
+use Rattle.std.specs.Prelude.{◌⊎◌, Bool, Err, false, IsTrue}
 use Rattle.std.proofs.lemmas.Bool.{both_ways}
 use Rattle.syslog_collect.specs.Answers.{IsBadCount}
 use Rattle.syslog_collect.specs.Outcomes.{outcomes_of}
@@ -7,7 +7,7 @@ use Rattle.syslog_collect.specs.declared.outcome.Outcome.{Outcome}
 use Rattle.syslog_collect.proofs.Between.{step_whole}
 use Rattle.syslog_collect.proofs.Hearing.{hears_ended, hears_nothing, hears_refused, hears_step}
 use Rattle.syslog_collect.proofs.Pieces.{goes_on, logs_nothing, logs_of, refused, step_ended, step_on, used_within}
-use Rattle.syslog_collect.proofs.Stopping.{step_cause, step_goes_on}
+use Rattle.syslog_collect.proofs.Stopping.{step_cause, step_goes_on, step_no_room, taken_with_room, unless_room}
 use Rattle.syslog_collect.proofs.piece.take_step.Goals as goal
 use Rattle.syslog_collect.proofs.piece.take_step.Goals.{then-is_bad_count-via-then-is_bad_count}
 use Rattle.syslog_collect.proofs.piece.take_step.Goals.{then-is_bad_count-via-else-is_bad_count+then-advance-rest}
@@ -70,11 +70,19 @@ pub returns-then-is_err-clause-cause : goal.returns-then-is_err-clause-cause
 returns-then-is_err-clause-cause g c s d at = inl (refl, refl, refl)
 
 pub returns-in-Err-clause-cause : goal.returns-in-Err-clause-cause
-returns-in-Err-clause-cause g c s d at =
-    step_cause c.args.reading c.args.rest.now c.used_of-used.result c.args.connection.now
-    c.advance_connection.new.connection _ _ c.in-Err.fault s c.used_of-used.ensures
-    (returns-in-Err-clause-within g c) (c.in-Err.ensures.cause s d at) c.in-Err.ensures.waits
-    c.in-Err.ensures.unchanged (c.in-Err.ensures.taken s d at)
+returns-in-Err-clause-cause g c s d at = elim c.in-Err.ensures.waits [
+  | inl room ↦
+      step_no_room c.args.reading c.args.rest.now c.used_of-used.result c.args.connection.now
+      c.advance_connection.new.connection c.in-Err.fault s c.used_of-used.ensures room
+  | inr waits ↦
+      step_cause c.args.reading c.args.rest.now c.used_of-used.result c.args.connection.now
+      c.advance_connection.new.connection _ _ c.in-Err.fault s c.used_of-used.ensures
+      (returns-in-Err-clause-within g c)
+      (unless_room c.args.connection.now c.advance_connection.new.connection (Err c.in-Err.fault) waits
+      (c.in-Err.ensures.cause s d at)) waits c.in-Err.ensures.unchanged
+      (unless_room c.args.connection.now c.advance_connection.new.connection (Err c.in-Err.fault) waits
+      (c.in-Err.ensures.taken s d at))
+]
 
 pub returns-clause-goes_on : goal.returns-clause-goes_on
 returns-clause-goes_on g c s d at =
@@ -82,13 +90,13 @@ returns-clause-goes_on g c s d at =
     (g.S.Store.entries c.args.store.now) (g.S.Store.entries c.advance_connection.new.store) c.args.rest.now
     c.in-Ok.advance.used c.in-Ok.advance.outcome s d _
     (λ bad. not_both c.is_bad_count.result (c.is_bad_count.ensures.1 bad) c.if-is_bad_count.false)
-    (c.in-Ok.ensures.taken s d at).0 (c.in-Ok.ensures.drops s d at)
+    (taken_with_room c.args.connection.now c.advance_connection.new.connection c.in-Ok.advance (c.in-Ok.ensures.taken s d at)).0 (c.in-Ok.ensures.drops s d at)
 
 pub returns-clause-whole : goal.returns-clause-whole
 returns-clause-whole g c s d at =
     step_whole c.args.rest.now c.in-Ok.advance.used c.in-Ok.advance.outcome s
     (λ bad. not_both c.is_bad_count.result (c.is_bad_count.ensures.1 bad) c.if-is_bad_count.false) (omega arith)
-    (c.in-Ok.ensures.taken s d at).1
+    (taken_with_room c.args.connection.now c.advance_connection.new.connection c.in-Ok.advance (c.in-Ok.ensures.taken s d at)).1
 
 pub returns-then-is_err-clause-hears : goal.returns-then-is_err-clause-hears
 returns-then-is_err-clause-hears g c s d at =

@@ -4,9 +4,10 @@ use Rattle.std.proofs.lemmas.Result.{err_from_is_err_and}
 use Rattle.syslog_fields.specs.Appending.{Anything}
 use Rattle.syslog_grammar.specs.Sorting.{IsTextOf, TextForm}
 use Rattle.syslog_fields.proofs.Appends.{adds_some}
-use Rattle.syslog_grammar.proofs.Sorting.{of_text, written_none, written_begun, written_more, written_end, key_left}
+use Rattle.syslog_grammar.proofs.Sorting.{of_text, written_none, written_begun, written_more, written_end}
 use Rattle.syslog_grammar.proofs.Sorting.{none_left}
 use Rattle.syslog_grammar.proofs.few_elements.put_texts.Goals as goal
+use Rattle.syslog_reading.proofs.IdTables.{drop_next}
 
 pub loop-i-init : goal.loop-i-init
 loop-i-init c = written_none (IsTextOf c.args.is_form) c.args.texts.now c.args.out.now.items
@@ -33,7 +34,7 @@ loop-i-preserved c =
     written_more (IsTextOf c.args.is_form) c.args.texts.now (drop c.loop-i.i c.args.texts.now)
     (drop (c.loop-i.i + 1) c.args.texts.now) text c.first_id-id.result.now (TextForm c.args.is_form text.now)
     c.args.out.now.items c.loop-i.out.items c.put_text.new.out.items (option_map (λ s. s.now) c.loop-i.greatest)
-    (key_left c.args.texts.now c.loop-i.i none c.loop-i-test.true)
+    (drop_next c.args.texts.now c.loop-i.i none c.loop-i-test.true)
     (of_text c.args.is_form c.first_id-id.result.now text c.first_id-id.ensures)
     (c.is_above.ensures.above (search rules)) c.in_ok-put_text.ensures c.loop-i.invariant
 

@@ -4,9 +4,10 @@ use Rattle.std.proofs.lemmas.Result.{err_from_is_err_and}
 use Rattle.syslog_fields.specs.Appending.{Anything}
 use Rattle.syslog_grammar.specs.Sorting.{FirstOf, IsKeyOf}
 use Rattle.syslog_fields.proofs.Appends.{adds_some}
-use Rattle.syslog_grammar.proofs.Sorting.{of_key, written_none, written_begun, written_more, written_end, key_left}
+use Rattle.syslog_grammar.proofs.Sorting.{of_key, written_none, written_begun, written_more, written_end}
 use Rattle.syslog_grammar.proofs.Sorting.{none_left}
 use Rattle.syslog_grammar.proofs.sorted.put_rising.Goals as goal
+use Rattle.syslog_reading.proofs.IdTables.{drop_next}
 
 pub loop-i-init : goal.loop-i-init
 loop-i-init c = written_none (IsKeyOf c.args.is_form c.args.elements.now) c.args.keys.now c.args.out.now.items
@@ -31,7 +32,7 @@ loop-i-preserved c =
     written_more (IsKeyOf c.args.is_form c.args.elements.now) c.args.keys.now (drop c.loop-i.i c.args.keys.now)
     (drop (c.loop-i.i + 1) c.args.keys.now) _ c.first_id-id.result.now (FirstOf c.args.is_form c.in-Some.rest.now)
     c.args.out.now.items c.loop-i.out.items c.put_first.new.out.items (option_map (λ s. s.now) c.loop-i.greatest)
-    (key_left c.args.keys.now c.loop-i.i _ c.loop-i-test.true)
+    (drop_next c.args.keys.now c.loop-i.i _ c.loop-i-test.true)
     (of_key c.args.is_form c.args.elements.now c.in-Some.rest.now c.first_id-id.result.now _
     (c.in-Some.ensures.cases.2 ∙ ap (λ (n : ℕ). drop n c.args.elements.now) c.offset_of.ensures) c.first_id-id.ensures)
     (c.is_above.ensures.above (search rules)) c.in_ok-put_first.ensures c.loop-i.invariant

@@ -1,14 +1,17 @@
-use Rattle.std.proofs.Common.{◌≡◌, ◌∙◌, ◌+◌, ◌<◌, Bool, List, false, drop, length, take, sym, subst, arith}
+use Rattle.std.proofs.Common.{rules, ◌≡◌, ◌∙◌, ◌+◌, ◌<◌, Bool, List, false, drop, length, take, sym, subst, arith}
 use Rattle.std.proofs.Common.{drop-set-lt}
 use Rattle.archive_streams.proofs.Turns.{at_err}
 use Rattle.archive_join.specs.Sides.{AreIdle}
 use Rattle.archive_join.proofs.Sides.{behind_more, idle_more, nearer_more}
 use Rattle.archive_join.proofs.joining.Join.advance.Goals as goal
 
-pub returns-in_err-advance_at-clause-halts : goal.returns-in_err-advance_at-clause-halts
-returns-in_err-advance_at-clause-halts g c =
-    at_err c.from_residual.result c.in_err-advance_at.field-0.0 _ c.from_residual.ensures.1
-    (λ ds tss ws st. c.in_err-advance_at.ensures.halts ds tss ws (c.heads.invariant.advances ds tss ws st))
+pub returns-in_err-advance_at-clause-advances : goal.returns-in_err-advance_at-clause-advances
+returns-in_err-advance_at-clause-advances g c =
+    record {
+      on = search rules;
+      halts = at_err c.from_residual.result c.in_err-advance_at.field-0.0 _ c.from_residual.ensures.1
+          (λ ds tss ws st. c.in_err-advance_at.ensures.advances.halts ds tss ws (c.heads.invariant.advances ds tss ws st));
+    }
 
 pub heads-preserved : goal.heads-preserved
 heads-preserved g c =
@@ -25,7 +28,7 @@ heads-preserved g c =
       count = done.output.count ∙ before.count;
       idle = subst (λ (l : List Bool). AreIdle (take (at + 1) l)) (sym done.holders)
           (idle_more was.holders.items at within before.idle);
-      advances = λ ds tss ws st. done.advances ds tss ws (before.advances ds tss ws st);
+      advances = λ ds tss ws st. done.advances.on ds tss ws (before.advances ds tss ws st);
       no_farther = omega (arith, done.nears.no_farther, before.no_farther);
       nearer = nearer_more c.args.self.now.heads.items was.heads.items now.heads.items c.args.self.now.holders.items
           was.holders.items at before.heads before.holders before.no_farther before.nearer done.nears;
@@ -34,5 +37,5 @@ heads-preserved g c =
           (sym done.holders)
           (drop-set-lt (at + 1) was.holders.items at false (omega arith)
           ∙ behind_more was.holders.items c.args.self.now.holders.items at before.holders);
-      failures = done.told ∙ before.failures;
+      failures = done.reads.told ∙ before.failures;
     }

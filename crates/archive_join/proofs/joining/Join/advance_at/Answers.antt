@@ -19,22 +19,30 @@ returns-in-Ok-clause-advances g c =
     let read : at < length c.args.inputs.now = omega (arith, c.requires.at, c.requires.inputs) in
     let r = get_or c.args.inputs.now at c.index-inputs-at.result in
     let is : r ≡ get_or c.args.inputs.now at r = ap (λ x. get_or c.args.inputs.now at x) c.index-inputs-at.is in
-    λ ds tss ws st.
-    rw (map-set g.R.Input.state) (advanced was.heads.items was.holders.items (map g.R.Input.state c.args.inputs.now) at c.index_mut.result.now
-    c.advance-advanced.new.self (g.R.Input.state r) (g.R.Input.state c.advance-advanced.new.reader) within also
-    c.index_mut.ensures.value (flag_at was.holders.items at c.index.result.now true also c.index.ensures on)
-    (stands_at g.R.Input.state c.args.inputs.now at r read is)
-    c.in-Ok.ensures.moves ds tss ws st)
+    record {
+      on = λ ds tss ws st.
+          rw (map-set g.R.Input.state) (advanced was.heads.items was.holders.items (map g.R.Input.state c.args.inputs.now) at c.index_mut.result.now
+          c.advance-advanced.new.self (g.R.Input.state r) (g.R.Input.state c.advance-advanced.new.reader) within also
+          c.index_mut.ensures.value (flag_at was.holders.items at c.index.result.now true also c.index.ensures on)
+          (stands_at g.R.Input.state c.args.inputs.now at r read is)
+          c.in-Ok.ensures.moves ds tss ws st);
+      halts = search rules;
+    }
 
-pub returns-in-Ok-clause-told : goal.returns-in-Ok-clause-told
-returns-in-Ok-clause-told g c =
+pub returns-in-Ok-clause-reads : goal.returns-in-Ok-clause-reads
+returns-in-Ok-clause-reads g c =
     let read : c.args.at < length c.args.inputs.now = omega (arith, c.requires.at, c.requires.inputs) in
     let r = get_or c.args.inputs.now c.args.at c.index-inputs-at.result in
     let is : r ≡ get_or c.args.inputs.now c.args.at r = ap (λ x. get_or c.args.inputs.now c.args.at x) c.index-inputs-at.is in
-    none_failed g.R.Input.state c.args.inputs.now c.args.at r c.advance-advanced.new.reader read is c.in-Ok.ensures.told
+    record {
+      told = none_failed g.R.Input.state c.args.inputs.now c.args.at r c.advance-advanced.new.reader read is
+          c.in-Ok.ensures.told;
+      not_writer = search rules;
+      not_memory = search rules;
+    }
 
-pub returns-in-Err-clause-halts : goal.returns-in-Err-clause-halts
-returns-in-Err-clause-halts g c =
+pub returns-in-Err-clause-advances : goal.returns-in-Err-clause-advances
+returns-in-Err-clause-advances g c =
     let at = c.args.at in
     let was = c.args.self.now in
     let on : c.index.result.now ≡ true = search rules in
@@ -48,19 +56,29 @@ returns-in-Err-clause-halts g c =
     within also c.requires.idle c.index_mut.ensures.value
     (flag_at was.holders.items at c.index.result.now true also c.index.ensures on)
     (stands_at g.R.Input.state c.args.inputs.now at r read is) c.in-Err.ensures.fails in
-    subst (λ (f : JoinFault). AdvanceHalts f was.heads.items was.holders.items (map g.R.Input.state c.args.inputs.now)
-    (map g.R.Input.state (set c.args.inputs.now at c.advance-advanced.new.reader))) (sym c.fault_of.ensures)
-    (λ ds tss ws st. rw (map-set g.R.Input.state) (halts ds tss ws st))
+    record {
+      on = search rules;
+      halts = subst (λ (f : JoinFault). AdvanceHalts f was.heads.items was.holders.items
+          (map g.R.Input.state c.args.inputs.now)
+          (map g.R.Input.state (set c.args.inputs.now at c.advance-advanced.new.reader))) (sym c.fault_of.ensures)
+          (λ ds tss ws st. rw (map-set g.R.Input.state) (halts ds tss ws st));
+    }
 
-pub returns-in-Err-clause-told : goal.returns-in-Err-clause-told
-returns-in-Err-clause-told g c =
+pub returns-in-Err-clause-reads : goal.returns-in-Err-clause-reads
+returns-in-Err-clause-reads g c =
     let read : c.args.at < length c.args.inputs.now = omega (arith, c.requires.at, c.requires.inputs) in
     let r = get_or c.args.inputs.now c.args.at c.index-inputs-at.result in
     let is : r ≡ get_or c.args.inputs.now c.args.at r = ap (λ x. get_or c.args.inputs.now c.args.at x) c.index-inputs-at.is in
-    subst (λ (f : JoinFault). ReadFailures {X = Unit {0}} (Err f) (failures_of (map g.R.Input.state c.args.inputs.now))
-    (failures_of (map g.R.Input.state (set c.args.inputs.now c.args.at c.advance-advanced.new.reader)))) (sym c.fault_of.ensures)
-    (failed_as_told (Unit {0}) (Unit {0}) g.R.Input.state c.args.inputs.now c.args.at r c.advance-advanced.new.reader c.in-Err.fault read is
-    c.in-Err.ensures.told)
+    record {
+      told = subst (λ (f : JoinFault). ReadFailures {X = Unit {0}} (Err f)
+          (failures_of (map g.R.Input.state c.args.inputs.now))
+          (failures_of (map g.R.Input.state (set c.args.inputs.now c.args.at c.advance-advanced.new.reader))))
+          (sym c.fault_of.ensures)
+          (failed_as_told (Unit {0}) (Unit {0}) g.R.Input.state c.args.inputs.now c.args.at r
+          c.advance-advanced.new.reader c.in-Err.fault read is c.in-Err.ensures.told);
+      not_writer = search rules;
+      not_memory = search rules;
+    }
 
 pub invariant_of-self : goal.invariant_of-self
 invariant_of-self g c =

@@ -15,7 +15,7 @@ returns-in_err-advance-clause-halted g c =
     let fault = c.in_err-advance.field-0.0 in
     at_err c.from_residual.result fault _ c.from_residual.ensures.1
     (joining_halts keeps text fault c.args.self.now c.advance.new.self ds ds _ _ _ c.advance.ensures.output.held
-    (not_writer (Unit {0}) fault c.in_err-advance.ensures.not_writer) c.in_err-advance.ensures.halts
+    (not_writer (Unit {0}) fault c.in_err-advance.ensures.reads.not_writer) c.in_err-advance.ensures.advances.halts
     (joining_fresh keeps text c.args.self.now ds _ c.requires.fresh all))
 
 pub entries-init : goal.entries-init
@@ -29,8 +29,8 @@ entries-init g c =
       inputs = omega (arith, c.requires.inputs, c.advance.auto.inputs, c.advance.ensures.size);
       idle = c.in_ok-advance.ensures.idle;
       joining = joining_advanced keeps text c.args.self.now c.advance.new.self ds ds _ _ _ c.advance.ensures.output.held
-          c.advance.ensures.output.count c.in_ok-advance.ensures.advances
+          c.advance.ensures.output.count c.in_ok-advance.ensures.advances.on
           (joining_fresh keeps text c.args.self.now ds _ c.requires.fresh all);
-      read = c.in_ok-advance.ensures.told;
+      read = c.in_ok-advance.ensures.reads.told;
       written = refl;
     }

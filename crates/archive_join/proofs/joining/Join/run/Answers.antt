@@ -31,8 +31,8 @@ returns-in-Ok-finish g c =
           (λ t u. written_at fault held start now after t other
           (λ l h. c.in-Ok-finish.ensures.finishes.whole start l h) u) c.in-Err.ensures.halted;
       told = record {
-        readers = failed_still (Unit {0}) ℕ fault _ _ other c.in-Err.ensures.read;
-        writer = written_still (Unit {0}) ℕ fault _ _ _ other c.in-Err.ensures.written
+        readers = failed_still (Unit {0}) ℕ fault _ _ other c.in-Err.ensures.devices.read;
+        writer = written_still (Unit {0}) ℕ fault _ _ _ other c.in-Err.ensures.devices.written
             c.in-Ok-finish.ensures.finishes.no_failure;
       };
       not_memory = search rules;

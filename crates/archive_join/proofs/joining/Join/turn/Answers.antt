@@ -30,15 +30,15 @@ returns-clause-turns g c =
     c.advance_holders.ensures.output.count advances
     (c.in_ok-take.ensures.takes c.args.self.now.holders.items ds _ start c.requires.idle
     (marked keeps text c.args.self.now c.note.new.self ds _ start _ m.heads m.output.held m.output.count before)))
-    c.advance_holders.ensures.advances
+    c.advance_holders.ensures.advances.on
 
 pub returns-clause-halts : goal.returns-clause-halts
 returns-clause-halts g c =
     let keeps = g.K.Kept.keeps c.args.kept.now in
     let text = g.K.Kept.text c.args.kept.now in
     let m = c.note.ensures in
-    if_readers _ c.advance_holders.result _ _ c.advance_holders.ensures.not_writer (λ fault other halts. λ ds start before.
+    if_readers _ c.advance_holders.result _ _ c.advance_holders.ensures.reads.not_writer (λ fault other halts. λ ds start before.
     joining_halts keeps text fault c.take.new.self c.advance_holders.new.self ds _ _ start _ c.advance_holders.ensures.output.held other halts
     (c.in_ok-take.ensures.takes c.args.self.now.holders.items ds _ start c.requires.idle
     (marked keeps text c.args.self.now c.note.new.self ds _ start _ m.heads m.output.held m.output.count before)))
-    c.advance_holders.ensures.halts
+    c.advance_holders.ensures.advances.halts

@@ -9,9 +9,10 @@ use Rattle.archive_streams.specs.Pieces.{unused}
 use Rattle.archive_streams.specs.declared.fault.SideFault.{SideFault}
 use Rattle.archive_streams.specs.Sides.{IsNextFault}
 use Rattle.archive_streams.specs.declared.fault.SideFault.TheVariants.{Archive}
-use Rattle.archive_streams.proofs.NextEntries.{near_on, next_fault, not_above_fault, position_within}
+use Rattle.archive_streams.proofs.NextEntries.{near_on, next_fault, not_above_fault}
 use Rattle.archive_streams.proofs.NextEntries.{reach_short}
 use Rattle.archive_streams.proofs.side.ArchiveReader.next.Goals as goal
+use Rattle.archive_text.proofs.FaultLaws.{position_within}
 
 pub returns-then-not-is_above-clause-fault : goal.returns-then-not-is_above-clause-fault
 returns-then-not-is_above-clause-fault g c =

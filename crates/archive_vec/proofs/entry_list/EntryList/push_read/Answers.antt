@@ -2,8 +2,9 @@ use Rattle.std.proofs.Common.{◌+◌, ◌<◌, ◌^◌, arith}
 use Rattle.std.proofs.lemmas.Bool.{false≢true}
 use Rattle.archive_text.specs.Positions.{position_of}
 use Rattle.archive_text.specs.declared.limits.TheConstants.{ENTRY_MAX}
-use Rattle.archive_vec.proofs.ReadingSteps.{fault_behind, not_ascending, position_within}
+use Rattle.archive_vec.proofs.ReadingSteps.{not_ascending}
 use Rattle.archive_vec.proofs.entry_list.EntryList.push_read.Goals as goal
+use Rattle.archive_text.proofs.FaultLaws.{fault_behind, position_within}
 
 pub returns-in-Err-clause-err : goal.returns-in-Err-clause-err
 returns-in-Err-clause-err c =

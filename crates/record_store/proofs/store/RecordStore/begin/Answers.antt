@@ -1,4 +1,5 @@
 use Rattle.std.proofs.Common.{refl, arith}
+use Rattle.record_store.proofs.Asides.{named_journal, others_files}
 use Rattle.record_store.proofs.Creating.{create_keeps, create_stands, create_within, none_named, none_within}
 use Rattle.record_store.proofs.store.RecordStore.begin.Goals as goal
 
@@ -34,3 +35,18 @@ returns-in-Err-clause-shows g c tells none since =
     c.in_ok-name.ensures (none 1 (omega arith)) (c.create.ensures.others tells) since
     (c.create.ensures.shows tells (none_named (g.D.Disk.state c.args.disk.now) c.in_ok-name.name c.in_ok-name.ensures none))
     (none_within (g.D.Disk.state c.args.disk.now) none since)
+
+pub returns-in-Ok-clause-files : goal.returns-in-Ok-clause-files
+returns-in-Ok-clause-files g c tells =
+    others_files (g.D.Disk.state c.args.disk.now) (g.D.Disk.state c.create.new.disk) c.in_ok-name.name
+    (named_journal 1 c.in_ok-name.name (omega arith) c.in_ok-name.ensures) (c.create.ensures.others tells)
+
+pub returns-in-Err-clause-files : goal.returns-in-Err-clause-files
+returns-in-Err-clause-files g c tells =
+    others_files (g.D.Disk.state c.args.disk.now) (g.D.Disk.state c.create.new.disk) c.in_ok-name.name
+    (named_journal 1 c.in_ok-name.name (omega arith) c.in_ok-name.ensures) (c.create.ensures.others tells)
+
+pub returns-in-Ok-clause-sound : goal.returns-in-Ok-clause-sound
+returns-in-Ok-clause-sound g c tells sound =
+    let stands = c.in-Ok.ensures.created tells sound in
+    stands.sound

@@ -11,6 +11,10 @@ pub returns-in-Ok-clause-between : goal.returns-in-Ok-clause-between
 returns-in-Ok-clause-between g c = rw (← c.new-disk.ensures.over) (λ tells.
     c.in-Ok.ensures.opened tells (c.new-disk.ensures.sound (c.open.ensures.told tells)))
 
+pub returns-in-Ok-clause-aside : goal.returns-in-Ok-clause-aside
+returns-in-Ok-clause-aside g c = rw (← c.new-disk.ensures.over) (λ tells.
+    c.in-Ok.ensures.aside tells (c.new-disk.ensures.sound (c.open.ensures.told tells)))
+
 pub returns-in-Err-clause-kept : goal.returns-in-Err-clause-kept
 returns-in-Err-clause-kept g c = rw (c.into_inner.ensures, ← c.new-disk.ensures.over) (λ tells.
     c.open.ensures.any_moment tells (c.new-disk.ensures.sound (c.open.ensures.told tells)))

@@ -8,6 +8,8 @@ returns-clause-goes_on g c = record {
       datagram_handled c.args.self.now.reading _ past _ _ first events c.args.octets.now c.handle.result
       c.handle.ensures.outcome c.handle.ensures.err was;
   reading = refl;
+  reserves = refl;
+  whole = λ on all. all;
   limit = refl;
   room = omega arith;
 }

@@ -5,6 +5,7 @@ use Rattle.syslog_collect.proofs.Found.{waits_closed}
 use Rattle.syslog_collect.proofs.Numbering.{held_at}
 use Rattle.syslog_collect.proofs.Steps.{handled_by}
 use Rattle.syslog_collect.proofs.Waiting.{ready_none}
+use Rattle.syslog_collect.proofs.Rooms.{reserved_closed}
 use Rattle.syslog_collect.proofs.collector.Collector.end_conn.Goals as goal
 
 pub index-requires : goal.index-requires
@@ -58,6 +59,8 @@ returns-in-Err-Unterminated-clause-goes_on g c =
                 (c.in-Err-Unterminated.ensures.reads kind start octets frames rest r)).0,
           ))) was;
       reading = refl;
+      reserves = refl;
+      whole = λ on all. reserved_closed cs _ c.args.conn c.close.ensures all;
       limit = c.close.ensures.limit;
       room = c.close.ensures.room;
     }
@@ -96,6 +99,8 @@ returns-in-Err-Failed-clause-goes_on g c =
           (handled_by x (λ kind start octets frames rest r.
           absurd (rw c.in-Err-Failed.field-0-is at (c.in-Err-Failed.ensures.reads kind start octets frames rest r)))) was;
       reading = refl;
+      reserves = refl;
+      whole = λ on all. reserved_closed cs _ c.args.conn c.close-in-Err-Failed.ensures all;
       limit = c.close-in-Err-Failed.ensures.limit;
       room = c.close-in-Err-Failed.ensures.room;
     }
@@ -131,6 +136,8 @@ returns-in-Ok-clause-goes_on g c =
           closed c.args.self.now.reading c.args.conn x cs _ _ first events is c.close-in-Ok.ensures
           (handled_by x (λ kind start octets frames rest r. ([], (c.in-Ok.ensures.reads kind start octets frames rest r).1))) was;
       reading = refl;
+      reserves = refl;
+      whole = λ on all. reserved_closed cs _ c.args.conn c.close-in-Ok.ensures all;
       limit = c.close-in-Ok.ensures.limit;
       room = c.close-in-Ok.ensures.room;
     }

@@ -8,6 +8,7 @@ use Rattle.syslog_collect.proofs.Found.{not_open, piece_logged, piece_refused, p
 use Rattle.syslog_collect.proofs.Hearing.{hears_none, hears_piece}
 use Rattle.syslog_collect.proofs.Logging.{nothing_of_piece}
 use Rattle.syslog_collect.proofs.Numbering.{become_of, held_at}
+use Rattle.syslog_collect.proofs.Rooms.{reserved_changed}
 use Rattle.syslog_collect.proofs.collector.Collector.observed_piece.Goals as goal
 
 pub index_mut-requires : goal.index_mut-requires
@@ -43,6 +44,11 @@ returns-in-Some-clause-goes_on g c =
           c.take_piece.ensures.number refl refl refl)
           c.take_piece.ensures.moves c.take_piece.ensures.accepted was;
       reading = refl;
+      reserves = refl;
+      whole = λ on all.
+          reserved_changed cs (record cs { slots = with_value cs.slots c.in-Some.place y }) c.args.conn x y is
+          (become_of cs (record cs { slots = with_value cs.slots c.in-Some.place y }) c.args.conn c.in-Some.place x y holds
+          c.index_mut.ensures.value c.take_piece.ensures.number refl refl refl) c.take_piece.ensures.reserved all;
       limit = refl;
       room = omega arith;
     }

@@ -5,6 +5,7 @@ use Rattle.syslog_collect.specs.declared.limits.TheConstants.{CONNECTIONS_LIMIT}
 use Rattle.syslog_collect.proofs.Collecting.{stays}
 use Rattle.syslog_collect.proofs.Found.{count_open, is_open, not_open, opened}
 use Rattle.syslog_collect.proofs.Numbering.{held_at}
+use Rattle.syslog_collect.proofs.Rooms.{reserved_opened}
 use Rattle.syslog_collect.proofs.collector.Collector.open_conn.Goals as goal
 
 is_held : (o : Option ℕ) (P : ℕ → Type 0) → is_some o ≡ true → IfSome o P → (n : ℕ) × P n
@@ -85,6 +86,9 @@ returns-in-Ok-open-clause-goes_on g c = record {
       opened c.args.self.now.reading c.args.conn c.args.framing c.in-Ok.scanner cs _ _ first events none few
       c.in-Ok.ensures.reads c.in-Ok.ensures.stands.1 c.in-Ok-open.ensures.ok was;
   reading = refl;
+  reserves = refl;
+  whole = λ on all.
+      reserved_opened c.args.self.now.connections _ _ c.in-Ok-open.ensures.ok (c.in-Ok.ensures.reserved ∙ on) all;
   limit = c.in-Ok-open.ensures.ok.limit;
   room = c.in-Ok-open.ensures.ok.room;
 }

@@ -1,33 +1,23 @@
-use Rattle.std.proofs.Common.{refl}
-use Rattle.syslog_frame.proofs.Reading.{moved_takes, moved_reads}
 use Rattle.syslog_frame.proofs.scanner.Scanner.push.Goals as goal
+use Rattle.syslog_frame.proofs.scanner.Scanner.push.Goals.{in-Ok, in-Err-Failed, in-Err-StreamTooLong}
 
-pub returns-else-piece-self-clause-takes : goal.returns-else-piece-self-clause-takes
-returns-else-piece-self-clause-takes c = λ kind position p h other.
-    let s = rw (← c.self.view_is) at h in
-    let t = c.take_piece-taken in
-    moved_takes _ _ _ kind position p c.args.piece.now t.result.used
-    (record {
-      within = t.ensures.advances.within;
-      framing_is = refl;
-      position_is = refl;
-      start_is = refl;
-      taken =
-          t.ensures.advances.taken;
-      holds = t.ensures.holds;
-    }) s
+pub returns-clause-takes : goal.returns-clause-takes
+returns-clause-takes c = elim c.match-push.branch [
+  | in-Ok w ↦ rw w.result-is (rw (← c.self.view_is) w.in-Ok.ensures.takes)
+  | in-Err-Failed w ↦ rw w.result-is tt
+  | in-Err-StreamTooLong w ↦ rw w.result-is tt
+]
 
-pub returns-else-piece-self-clause-reads : goal.returns-else-piece-self-clause-reads
-returns-else-piece-self-clause-reads c = λ kind first octets frames rest r other.
-    let s = rw (← c.self.view_is) at r in
-    let t = c.take_piece-taken in
-    moved_reads _ _ _ kind first octets frames rest c.args.piece.now t.result.used
-    (record {
-      within = t.ensures.advances.within;
-      framing_is = refl;
-      position_is = refl;
-      start_is = refl;
-      taken =
-          t.ensures.advances.taken;
-      holds = t.ensures.holds;
-    }) s
+pub returns-clause-stands : goal.returns-clause-stands
+returns-clause-stands c = elim c.match-push.branch [
+  | in-Ok w ↦ rw w.result-is (rw (← c.self.view_is) w.in-Ok.ensures.stands)
+  | in-Err-Failed w ↦ rw w.result-is tt
+  | in-Err-StreamTooLong w ↦ rw w.result-is tt
+]
+
+pub returns-clause-reads : goal.returns-clause-reads
+returns-clause-reads c = elim c.match-push.branch [
+  | in-Ok w ↦ rw w.result-is (rw (← c.self.view_is) w.in-Ok.ensures.reads)
+  | in-Err-Failed w ↦ rw w.result-is tt
+  | in-Err-StreamTooLong w ↦ rw w.result-is tt
+]

@@ -1,7 +1,7 @@
 use Rattle.std.proofs.Common.{[], refl, inr}
 use Rattle.std.proofs.KnownBytes.{Appends-nil}
-use Rattle.syslog_sender.proofs.Outputs.{some_octets}
 use Rattle.syslog_sender.proofs.sender.Sender.send.Goals as goal
+use Rattle.syslog_fields.proofs.CanonicalTexts.{canonical_some}
 
 pub returns-in-None-clause-step : goal.returns-in-None-clause-step
 returns-in-None-clause-step g c =
@@ -16,4 +16,4 @@ returns-in-None-clause-step g c =
     )
 
 pub write_frame-requires : goal.write_frame-requires
-write_frame-requires g c = rw c.as_slice.ensures.value (some_octets _ _ (rw c.in-Some.is at c.in_ok-octets.ensures.ok))
+write_frame-requires g c = rw c.as_slice.ensures.value (canonical_some _ _ (rw c.in-Some.is at c.in_ok-octets.ensures.ok))

@@ -1,0 +1,10 @@
+pub mod Places
+pub mod Hashes
+pub mod Climbs
+pub mod Soundness
+pub mod Completeness
+pub mod Standing
+pub mod Theorems
+pub mod Makings
+pub mod Endings
+pub mod Readings

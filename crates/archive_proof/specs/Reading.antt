@@ -1,0 +1,32 @@
+-- What may be written as a proof.
+use Rattle.std.specs.Prelude.{◌≡◌, ℕ, ◌^◌, ◌<◌, ◌≤◌, List, Option, None, Some, ⊤, length}
+use Rattle.std.specs.List.{AllByRecursion}
+use Rattle.hex.specs.Hex.{IsBytes}
+use Rattle.archive_tree.specs.declared.audit_path.AuditPath.{AuditPath}
+use Rattle.archive_proof.specs.declared.proof.Neighbour.{Neighbour}
+use Rattle.archive_proof.specs.declared.proof.Proof.{Proof}
+use Rattle.archive_proof.specs.declared.proof.Proof.TheVariants.{Present, Absent}
+
+-- 32 octets
+pub record IsHash (h : List ℕ) : Type 0 where
+  pub size : length h ≡ 32
+  pub octets : IsBytes h
+
+-- an index below 2^64, and at most 64 hashes
+pub record IsPath (p : AuditPath) : Type 0 where
+  pub index : p.index < 2 ^ 64
+  pub number : length p.hashes.items ≤ 64
+  pub hashes : AllByRecursion IsHash p.hashes.items
+
+-- a path, and the octets of a record
+pub record IsNeighbour (n : Neighbour) : Type 0 where
+  pub size : length n.octets.items < 2 ^ 64
+  pub path : IsPath n.path
+
+abbrev pub IsSide : Option Neighbour → Type 0
+IsSide None = ⊤
+IsSide (Some n) = IsNeighbour n
+
+abbrev pub IsProof : Proof → Type 0
+IsProof (Present path) = IsPath path
+IsProof (Absent before behind) = IsSide before × IsSide behind

@@ -1,0 +1,4 @@
+pub mod Conditions
+pub mod Names
+pub mod Tests
+pub mod WordDecision

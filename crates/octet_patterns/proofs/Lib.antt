@@ -1,0 +1,4 @@
+pub mod Finding
+pub mod Places
+pub mod Runs
+pub mod Stars

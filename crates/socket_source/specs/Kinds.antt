@@ -1,0 +1,13 @@
+-- Which sockets are those of datagrams.
+use Rattle.std.specs.Prelude.{ℕ, zero, suc, Bool, true, false, List, slice_index_or}
+use Rattle.socket_source.specs.declared.bound.Bound.{Bound}
+use Rattle.socket_source.specs.declared.bound.Bound.TheVariants.{Streams, Datagrams}
+
+abbrev pub is_datagrams : Bound → Bool
+is_datagrams (Streams socket framing) = false
+is_datagrams (Datagrams socket addressed) = true
+
+-- whether a number is that of a listener of datagrams, where these are the kinds of the listeners, whose numbers begin at 1
+abbrev pub has_datagrams : List Bool → ℕ → Bool
+has_datagrams kinds zero = false
+has_datagrams kinds (suc listener) = slice_index_or kinds listener false
