@@ -7,6 +7,7 @@ log=$(mktemp)
 trap 'rm -f "$log" "$log.status"' EXIT
 
 part() {
+    begun=$(date +%s)
     # the status is that of the part, and not of tee
     {
         "$@" 2>&1
@@ -21,10 +22,14 @@ part() {
     fi
     passed=$((passed + ${line%% *}))
     failed=$((failed + of_part))
+    echo "$*: $(($(date +%s) - begun)) seconds"
 }
 
-# Prints the last line; the status is 0 exactly where nothing failed.
+# Prints the processor time of all parts (user, system) and the number of cores, and the last line; the status is 0 exactly
+# where nothing failed.
 end_parts() {
+    times > "$log"
+    echo "processor time $(tail -n 1 "$log") on $(getconf _NPROCESSORS_ONLN) cores"
     echo "$passed passed, $failed failed"
     [ "$failed" -eq 0 ]
 }

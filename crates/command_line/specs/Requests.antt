@@ -268,19 +268,22 @@ read_further name rows =
     else (if bytes_eq name (codes "root") then Some Root
     else (if bytes_eq name (codes "send") then read_send rows else read_store name rows))
 
--- the request of any other subcommand
+-- the request of a subcommand on the archives of two files, of `migrate`, or of another that is no subcommand on frames
+unfoldable pub read_files : Text → List Row → Option Asked
+read_files name rows =
+    if bytes_eq name (codes "merge") then read_merge rows
+    else (if bytes_eq name (codes "migrate") then read_migrate rows
+    else (if bytes_eq name (codes "common") then read_common rows
+    else (if bytes_eq name (codes "minus") then read_minus rows
+    else (if bytes_eq name (codes "diff") then read_diff rows else read_further name rows))))
+
+-- the request of a subcommand on frames, or of any other
 unfoldable pub read_other : Text → List Row → Option Asked
 read_other name rows =
     if bytes_eq name (codes "check") then read_check rows
     else (if bytes_eq name (codes "convert") then read_convert rows
     else (if bytes_eq name (codes "show") then read_show rows
-    else (if bytes_eq name (codes "archive") then read_archive rows
-    else (if bytes_eq name (codes "merge") then read_merge rows
-    else (if bytes_eq name (codes "migrate") then read_migrate rows
-    else (if bytes_eq name (codes "common") then read_common rows
-    else (if bytes_eq name (codes "minus") then read_minus rows
-    else (if bytes_eq name (codes "diff") then read_diff rows
-    else read_further name rows))))))))
+    else (if bytes_eq name (codes "archive") then read_archive rows else read_files name rows)))
 
 -- the request of a subcommand with the values of its options
 abbrev pub read_of : Text × List Row → Option Asked

@@ -4,7 +4,7 @@ ghost use Rattle.std.specs.Prelude.{◌≡◌, map, option_map, option_and_then,
 ghost use Rattle.std.specs.Result.{result_ok};
 ghost use Rattle.clap.specs.Words.{found_of, rows_of, subcommand_rows_of};
 ghost use Rattle.command_line.specs.Requests.{Collect, IsUsage, asked_by, parsed, read_collect, read_further, read_of};
-ghost use Rattle.command_line.specs.Requests.{read_other};
+ghost use Rattle.command_line.specs.Requests.{read_files, read_other};
 
 use crate::collecting::read_collect_words;
 use crate::digest_words::read_digest_words;
@@ -73,7 +73,24 @@ fn read_further_words<'a>(
     }
 }
 
-// The request of any other command, by its name.
+// The request of a command on the archives of two files, of `migrate`, or of another that is none on
+// frames, by its name.
+#[tactic(auto, unfolding(crate::specs::Requests::read_files))]
+fn read_files_words<'a>(name: &str, matches: &ArgMatches<'a>) -> Result<Request<'a>, Refusal<'a>>
+    ensures { option_map asked_by (result_ok result)
+        ≡ read_files name.now (rows_of (found_of matches.now)) }
+{
+    match name {
+        "merge" => read_merge_words(matches),
+        "migrate" => read_migrate_words(matches),
+        "common" => read_common_words(matches),
+        "minus" => read_minus_words(matches),
+        "diff" => read_diff_words(matches),
+        _ => read_further_words(name, matches),
+    }
+}
+
+// The request of a command on frames, or of any other, by its name.
 #[tactic(auto, unfolding(crate::specs::Requests::read_other))]
 fn read_other_words<'a>(name: &str, matches: &ArgMatches<'a>) -> Result<Request<'a>, Refusal<'a>>
     ensures { option_map asked_by (result_ok result)
@@ -84,12 +101,7 @@ fn read_other_words<'a>(name: &str, matches: &ArgMatches<'a>) -> Result<Request<
         "convert" => read_convert_words(matches),
         "show" => read_show_words(matches),
         "archive" => read_archive_words(matches),
-        "merge" => read_merge_words(matches),
-        "migrate" => read_migrate_words(matches),
-        "common" => read_common_words(matches),
-        "minus" => read_minus_words(matches),
-        "diff" => read_diff_words(matches),
-        _ => read_further_words(name, matches),
+        _ => read_files_words(name, matches),
     }
 }
 
