@@ -58,10 +58,7 @@ fn read_collect_request<'a>(matches: &ArgMatches<'a>) -> Result<Request<'a>, Ref
 
 // The request of a command that reads an archive as it comes, of `send`, or of one on a store, by its
 // name.
-fn read_further_words<'a>(
-    name: &str,
-    matches: &ArgMatches<'a>,
-) -> Result<Request<'a>, Refusal<'a>>
+fn read_further_words<'a>(name: &str, matches: &ArgMatches<'a>) -> Result<Request<'a>, Refusal<'a>>
     ensures { option_map asked_by (result_ok result)
         ≡ read_further name.now (rows_of (found_of matches.now)) }
 {
