@@ -1,5 +1,6 @@
-"""The documents: their links and anchors, the files, targets and commands that they name, their tours, their pictures, the
-figures and the cases of README that a test can hold, and the layout and the references of the manual's pages."""
+"""The documents: their links and anchors, the files, targets, commands, calls and clauses that they name, their tours,
+their pictures, the figures and the cases of README that a test can hold, and the layout and the references of the manual's
+pages."""
 import fnmatch
 import json
 import os
@@ -128,6 +129,33 @@ def named(results):
         results.check(f"docs/COMMANDS.md: the option --{option} is in the manual", re.search(rf"Fl -{option}\b", page))
 
 
+@cache
+def names_of_the_sources():
+    """The words of the sources and their clauses, and the names of crates and mutants."""
+    found = set()
+    for path in (ROOT / "crates").glob("*/*/**/*"):
+        if path.suffix in (".rt", ".antt") and "out" not in path.parts:
+            found.update(re.findall(r"\w+", path.read_text()))
+    edits = [*(ROOT / "crates").glob("*/must-fail/*.edit"), *(ROOT / "mutants").glob("*/*")]
+    return found | {path.stem for path in edits} | {path.name for path in (ROOT / "crates").iterdir()}
+
+
+def is_of_the_sources(word):
+    """Whether a word is written as names of calls, clauses and definitions are, and not with a prefix for C."""
+    return bool("_" in word or re.search("[a-z][A-Z]", word)) and not word.startswith("syslogbox_")
+
+
+def promised(results):
+    """Each call, clause, definition and mutant by which PROOFS.md and README.md promise something is there."""
+    seen = {}
+    for name in ("docs/PROOFS.md", "README.md"):
+        for span in spans(ROOT / name):
+            seen.update({word: name for word in re.findall(r"[A-Za-z]\w*", span) if is_of_the_sources(word)})
+    for word, name in seen.items():
+        results.check(f"{name}: {word} is there", word in names_of_the_sources())
+    results.check("PROOFS.md names calls and clauses", len(seen) > 500, str(len(seen)))
+
+
 def laid_out(results, page):
     """groff and mandoc, if they are here, have nothing to say on a manual page."""
     for words in LINTERS:
@@ -246,6 +274,7 @@ def documents(program, results):
     links(results)
     paths(results)
     named(results)
+    promised(results)
     manual(results)
     widths(results)
     tables(results)
