@@ -79,8 +79,9 @@ tarball() {
     bindings "$tree"
     if command -v python3 > /dev/null; then
         python3 -B "$tree/python/backend.py" "$dist" > /dev/null
+        python3 -B scripts/go_proxy.py "$tree/goproxy"
     else
-        echo "There is no python3 here, so no wheel was made."
+        echo "There is no python3 here, so neither a wheel nor the module of Go was made."
     fi
     (cd "$tree" && find . -type f | sort | xargs sha256sum) > "$dist/sums"
     mv "$dist/sums" "$tree/SHA256SUMS"

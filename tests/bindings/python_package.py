@@ -5,6 +5,7 @@ import doctest
 import hashlib
 import importlib
 import io
+import logging
 import pickle
 import pkgutil
 import re
@@ -187,6 +188,18 @@ def datagrams(results, package):
     results.check("Python: the timeout of a socket is raised", seen is socket.timeout, str(seen))
 
 
+def logged(results, package):
+    """What is logged into a socket for datagrams is a record a datagram, line feeds too."""
+    reader, sender = socket.socketpair(socket.AF_UNIX, socket.SOCK_DGRAM)
+    reader.settimeout(5)
+    logger = logging.Logger("lines")
+    logger.addHandler(package.Handler(sender.makefile("wb", buffering=0), None, formatter=package.Formatter("app")))
+    shown = package.records(reader)
+    for text in ("one\ntwo", "three"):
+        logger.info(text)
+        results.check(f"Python: {text!r} is logged into a socket", next(shown).text == text)
+
+
 def instants(results, package):
     """The first and the last instants, and years that `datetime` does not have."""
     for stamp in ["0000-01-01T00:00:00.000000Z", "0000-02-29T23:59:59.999999Z", "0000-12-31T23:59:59.999999Z", "0001-01-01T00:00:00.000000Z",
@@ -284,6 +297,7 @@ def package(results, folder, module, frames, answers):
     tour(results, module)
     typed(results, folder)
     records(results, module, frames, answers)
+    logged(results, module)
     instants(results, module)
     pickled(results, module)
     packed(results, folder)

@@ -93,6 +93,18 @@ def in_c(program, results, folder, frames, answers):
         hardest(results, folder, calls)
 
 
+def header(results, folder):
+    """The header alone is a program in C99 and in C++."""
+    for compiler, standard in [("gcc", "c99"), ("g++", "c++11")]:
+        if not shutil.which(compiler):
+            results.skip(f"the header in {standard}", f"there is no {compiler}")
+            continue
+        words = [f"-std={standard}", "-pedantic-errors", "-Wall", "-Wextra", "-Werror", "-fsyntax-only", "-I", ROOT / "include"]
+        suffix = "c" if compiler == "gcc" else "cc"
+        source = folder.file(f"header.{suffix}", b"#include <syslogbox.h>\nint main(void) { return syslogbox_check(0, 0, 0); }\n")
+        results.same(f"the header in {standard}", run(compiler, [*words, source]), (0, b"", b""))
+
+
 def hardest(results, folder, calls):
     """What records take that have as many octets as are read, and many ids; and that one with an octet more is read by no call."""
     room = reference.ENTRY_MAX - len(FRONT) - 1
@@ -417,6 +429,7 @@ def bindings(program, results):
     exported = run("nm", ["-D", "--defined-only", ROOT / "build/libsyslogbox.so.0"])[1].split()[2::3]
     calls = sorted(f"syslogbox_{name}".encode() for name in "canonical check element frame legacy param pass spans union value view".split())
     results.check("the shared library has the header's calls alone", sorted(exported) == calls, str(exported))
+    header(results, program.folder)
     in_c(program, results, program.folder, frames, answers)
     in_python(program, results, program.folder, frames, answers)
     installed(results, program.folder)
