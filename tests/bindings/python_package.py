@@ -6,6 +6,7 @@ import hashlib
 import importlib
 import io
 import logging
+import os
 import pickle
 import pkgutil
 import re
@@ -14,6 +15,7 @@ import socket
 import sys
 import tarfile
 import zipfile
+from queue import Empty, Queue
 from threading import Thread
 
 from lib import reference
@@ -125,6 +127,7 @@ def records(results, package, frames, answers):
         results.check(f"Python: refusals of {name}", [told(one) for one in refused] == right, f"{len(refused)} for {len(right)}")
     placed = all(stream[one.position:].split(b" ", 1)[1].startswith(one.octets) for one in refused)
     results.check("Python: a refusal has its octets and their position", placed)
+    as_they_come(results, package)
     ends(results, package)
     datagrams(results, package)
 
@@ -149,6 +152,21 @@ def sent(octets):
 
     Thread(target=send, daemon=True).start()
     return reader
+
+
+def as_they_come(results, package):
+    """A record is there as soon as its frame is whole, while what sends stays open."""
+    (read, written), (reader, sender) = os.pipe(), socket.socketpair()
+    with sender, reader, open(read, "rb") as pipe, open(written, "wb", buffering=0) as into:
+        for name, source, send in [("a socket", reader, sender.sendall), ("a pipe", pipe, into.write)]:
+            shown, seen = package.records(source), Queue()
+            Thread(target=lambda: seen.put(next(shown)), daemon=True).start()
+            send(b"17 <13>1 - - - - - -4 <0>")
+            try:
+                one = seen.get(timeout=10).severity
+            except Empty:
+                one = "none"
+            results.check(f"Python: a record of {name} as it comes", one == 5, str(one))
 
 
 def ends(results, package):
@@ -247,6 +265,7 @@ def packed(results, folder):
     with zipfile.ZipFile(wheels[0]) as wheel:
         inside = {name: wheel.read(name) for name in wheel.namelist()}
     recorded(results, inside)
+    tagged(results, wheels[0], inside)
     with tarfile.open(sdists[0]) as sdist:
         names = {name.split("/", 1)[1] for name in sdist.getnames()}
     package = {name for name in inside if name.startswith("syslogbox/") and not name.endswith(".so.0")}
@@ -268,6 +287,15 @@ def recorded(results, inside):
     results.check("Python: RECORD has each file of the wheel", rows == {**right, name: ["", ""]}, str(rows))
     for path in ("syslogbox/py.typed", "syslogbox/libsyslogbox.so.0"):
         results.check(f"Python: the wheel has {path}", path in inside, str(sorted(inside)))
+
+
+def tagged(results, wheel, inside):
+    """WHEEL has the tags of the wheel's name, each platform on its own."""
+    (about,) = (octets.decode() for name, octets in inside.items() if name.endswith("/WHEEL"))
+    python, abi, platforms = wheel.name[:-4].split("-")[2:]
+    right = [f"Tag: {python}-{abi}-{platform}" for platform in platforms.split(".")]
+    seen = [line for line in about.splitlines() if line.startswith("Tag: ")]
+    results.check("Python: WHEEL has the tags of the name", seen == right and "Root-Is-Purelib: false" in about, about)
 
 
 PROGRAM = "import syslogbox; print(syslogbox.view(b'<0>1 - - - - - -').severity)"
