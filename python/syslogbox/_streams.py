@@ -54,7 +54,9 @@ def _reader(source: Source) -> Callable[[int], Optional[bytes]]:
         return io.BytesIO(source).read
     if isinstance(source, socket.socket):
         return source.recv
-    read: Callable[[int], Optional[bytes]] = getattr(source, "read1", None) or source.read
+    read: Optional[Callable[[int], Optional[bytes]]] = getattr(source, "read1", getattr(source, "read", None))
+    if read is None:
+        raise library.no_octets(source)
     return read
 
 

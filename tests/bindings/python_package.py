@@ -179,6 +179,11 @@ def ends(results, package):
         seen = first == last, refusal.number, refusal.position, refusal.octets, refusal.kind.name, refusal.offset
         results.check(f"Python: a frame that is too long, {name}", seen == (True, 2, position, None, "TOO_LONG", position), str(seen))
         results.check(f"Python: a refusal as text, {name}", str(refusal) == f"frame 2: {refusal.error}", str(refusal))
+    try:
+        seen = next(package.records(bytearray(b"16 <0>1 - - - - - -")))
+    except TypeError as error:
+        seen = str(error)
+    results.check("Python: octets that are not bytes are refused", "bytearray" in str(seen), str(seen))
     for octets, kind in [(b"16 <0>1", "UNTERMINATED"), (b"x", "BAD_COUNT")]:
         try:
             list(package.records(reference.counted([record]) + octets))
@@ -318,6 +323,11 @@ def installed(results, folder, wheel, sdist):
     _, where, _ = run(python, ["-c", "import syslogbox; print(syslogbox.__file__)"], cwd=place,
                       environment={"PYTHONPATH": "", "SYSLOGBOX_LIBRARY": str(ROOT / "build/libsyslogbox.so.0")})
     results.check("Python: it is the one that was installed", where.startswith(bytes(place)), str(where))
+    if shutil.which("mypy"):
+        # mypy reads the types of what is installed only if the package says that it has some
+        words = ["--strict", "--cache-dir", place / "types", "--python-executable", python, folder.file("user.py", USER.encode())]
+        seen = run("mypy", words, cwd=place, timeout=300)
+        results.check("Python: mypy reads the types of what was installed", seen[0] == 0, seen[1].decode())
 
 
 def package(results, folder, module, frames, answers):

@@ -86,6 +86,10 @@ def tarball(file, version, room, results):
     libraries = {"LD_LIBRARY_PATH": str(folder / "lib")}
     in_c("the tarball", room, results, {"PKG_CONFIG_PATH": str(folder / "lib/pkgconfig")}, libraries)
     wheel(folder, results)
+    downloads = folder / "goproxy/cupolachive.example/syslogbox/@v"
+    names = {path.name for path in downloads.iterdir()} if downloads.is_dir() else set()
+    right = {"list", *(f"v{version}.{suffix}" for suffix in ("info", "mod", "zip"))}
+    results.check("the tarball has the module of Go", names == right, str(names))
 
 
 def wheel(folder, results):
