@@ -116,18 +116,21 @@ func TestReadContext(t *testing.T) {
 	source, sender := net.Pipe()
 	defer sender.Close()
 	r := NewReader(source, Counted)
-	for _, part := range []string{"", "16 <0>1 ", "- - - - - -16"} {
-		if part != "" {
-			go sender.Write([]byte(part))
+	for _, row := range []struct {
+		part    string
+		records int
+	}{{"", 0}, {"16 <0>1 ", 0}, {"- - - - - -16", 1}} {
+		ctx, cancel := context.WithCancel(context.Background())
+		go func(part string) {
+			sender.Write([]byte(part)) // returns when all of it was read
+			cancel()
+		}(row.part)
+		count, err := 0, error(nil)
+		for ; err == nil; count++ {
+			_, err = r.ReadContext(ctx)
 		}
-		ctx, cancel := context.WithTimeout(context.Background(), 50*time.Millisecond)
-		record, err := r.ReadContext(ctx)
-		for part != "" && err == nil {
-			record, err = r.ReadContext(ctx)
-		}
-		cancel()
-		if record != nil || err != context.DeadlineExceeded {
-			t.Fatalf("%q: %v %v", part, record, err)
+		if count-1 != row.records || err != context.Canceled {
+			t.Fatalf("%q: %d records, %v", row.part, count-1, err)
 		}
 	}
 	go func() {
@@ -142,8 +145,10 @@ func TestReadContext(t *testing.T) {
 	}
 	ctx, cancel := context.WithCancel(context.Background())
 	cancel()
-	if _, err := r.ReadContext(ctx); err != context.Canceled {
-		t.Fatal(err)
+	for _, r := range []*Reader{r, NewReader(strings.NewReader(nil16), Counted)} {
+		if _, err := r.ReadContext(ctx); err != context.Canceled {
+			t.Fatal(err)
+		}
 	}
 }
 

@@ -18,7 +18,7 @@ def compiled(folder, name, sources, *words):
     return str(path), status == 0, notes.decode(errors="replace")
 
 
-def python_package():
+def loaded_package():
     """The package of these sources, over the library in build/."""
     os.environ["SYSLOGBOX_LIBRARY"] = SHARED
     sys.path.insert(0, str(ROOT / "python"))

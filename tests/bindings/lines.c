@@ -5,8 +5,9 @@
  *   lines legacy YEAR MINUTES FILE   of what each frame of such a stream is read as, as a packet under a clock
  *   lines union LEFT RIGHT           of each record in the union of two archives
  *
- * A line is made of the octets as they are, and once more of their canonical form: if the two differ, the number of the
- * frame is told, and the status is 1.
+ * A line is made of the octets as they are, by all of their spans, and once more of their canonical form, by each element and
+ * parameter on its own: if the two differ, the number of the frame is told, and the status is 1. So it is if syslogbox_pass
+ * counts other records than are printed.
  */
 #define _GNU_SOURCE
 #include <stdio.h>
@@ -179,6 +180,34 @@ static void put_data(FILE *line, struct octets record, const struct syslogbox_pa
     free(ids);
 }
 
+/* The same of octets that are canonical, each element and parameter by its number. */
+static void put_numbered(FILE *line, struct octets record, size_t elements)
+{
+    struct syslogbox_element e;
+    struct syslogbox_param q;
+
+    fputs(",\"data\":{", line);
+    for (size_t n = 0; n < elements; n++) {
+        if (!syslogbox_element(record.at, record.len, n, &e, NULL))
+            abort();
+        if (n)
+            fputc(',', line);
+        put_string(line, cut(record, e.id));
+        fputs(":[", line);
+        for (size_t m = 0; m < e.params; m++) {
+            if (!syslogbox_param(record.at, record.len, n, m, &q, NULL))
+                abort();
+            fputs(m ? ",[" : "[", line);
+            put_string(line, cut(record, q.name));
+            fputc(',', line);
+            put_value(line, cut(record, q.value));
+            fputc(']', line);
+        }
+        fputc(']', line);
+    }
+    fputc('}', line);
+}
+
 static void put_message(FILE *line, struct octets message, int has_bom)
 {
     if (is_utf8(message)) {
@@ -203,7 +232,7 @@ static struct syslogbox_part_span *spans_of(struct octets record, int64_t *count
     return spans;
 }
 
-/* The line of a record, whose time stands in its canonical form. */
+/* The line of a record, whose time stands in its canonical form; of that one itself by the numbers of its elements. */
 static char *line_of(struct octets record, struct octets canonical)
 {
     static const char *const facilities[] = {
@@ -227,7 +256,10 @@ static char *line_of(struct octets record, struct octets canonical)
     put_word(line, "app", cut(record, p.app_name));
     put_word(line, "proc", cut(record, p.proc_id));
     put_word(line, "msgid", cut(record, p.msg_id));
-    put_data(line, record, spans, (size_t)count);
+    if (record.at == canonical.at)
+        put_numbered(line, record, p.elements);
+    else
+        put_data(line, record, spans, (size_t)count);
     put_message(line, cut(record, p.message), (int)p.has_bom);
     fclose(line);
     free(spans);
@@ -269,23 +301,44 @@ static int reads(struct octets packet, const int *clock, struct octets *record)
     return len >= 0;
 }
 
+/* How many frames of a stream are records. */
+static size_t records_of(struct octets stream)
+{
+    size_t at = 0, start, end, count, records = 0;
+    int64_t taken = 1;
+
+    while (taken > 0) {
+        at += (size_t)syslogbox_pass(SYSLOGBOX_COUNTED, stream.at + at, stream.len - at, &count);
+        records += count;
+        taken = syslogbox_frame(SYSLOGBOX_COUNTED, stream.at + at, stream.len - at, &start, &end);
+        at += (size_t)taken;
+    }
+    return records;
+}
+
 static void put_stream(struct octets stream, const int *clock)
 {
-    size_t at = 0, start, end;
+    size_t at = 0, start, end, records = 0;
     unsigned long number = 0;
     int64_t taken;
 
     while ((taken = syslogbox_frame(SYSLOGBOX_COUNTED, stream.at + at, stream.len - at, &start, &end)) > 0) {
         struct octets record;
         number++;
-        if (reads((struct octets){stream.at + at + start, end - start}, clock, &record))
+        if (reads((struct octets){stream.at + at + start, end - start}, clock, &record)) {
             put_record(record, number);
+            records++;
+        }
         if (clock)
             free(record.at);
         at += (size_t)taken;
     }
     if (at != stream.len)
         abort();
+    if (!clock && records != records_of(stream)) {
+        fprintf(stderr, "syslogbox_pass counts other records than %zu\n", records);
+        exit(1);
+    }
 }
 
 int main(int argc, char **argv)

@@ -11,8 +11,7 @@ import time
 from random import Random
 
 from bindings import python_package
-from bindings.building import SANITIZED, SHARED, compiled, for_go
-from bindings.building import python_package as loaded
+from bindings.building import SANITIZED, SHARED, compiled, for_go, loaded_package
 from bindings.go_module import go_module
 from bindings.lines import lines
 from cases.colliding_ids import FRONT, STACK, colliding, data, fitting, ids, most
@@ -198,7 +197,7 @@ def answer_of(module, record):
 
 
 def in_python(program, results, folder, frames, answers):
-    module = loaded()
+    module = loaded_package()
     wrong = next((f"{frame!r}" for frame, right in zip(frames, answers) if answer_of(module, frame) != right), "")
     results.check("Python: records", not wrong, wrong)
     right = sum(isinstance(answer, bytes) for answer in answers)
