@@ -1,7 +1,8 @@
-"""The module for Go: its layout, its fuzz targets, and programs that find it without a `replace`."""
+"""The module for Go: its layout, the program of docs/LIBRARY.md, and how others require it without a `replace`."""
 import os
 import re
 import shutil
+import sys
 import tempfile
 from pathlib import Path
 
@@ -47,7 +48,7 @@ def downloaded(results, folder, environment):
     proxy, program = folder.path / "goproxy", folder.path / "downloading"
     program.mkdir()
     (program / "main.go").write_text(program_of(section()))
-    status, output, notes = run("python3", ["-B", ROOT / "scripts/go_proxy.py", proxy])
+    status, output, notes = run(sys.executable, ["-B", ROOT / "scripts/go_proxy.py", proxy])
     results.check("Go: the module is packed", status == 0, (output + notes).decode())
     (name,) = re.findall(r"^module (\S+)$", (ROOT / "go/go.mod").read_text(), re.MULTILINE)
     environment = {**environment, "GOFLAGS": "-modcacherw", "GOMODCACHE": str(folder.path / "modules"), "GOPROXY": f"file://{proxy}",
