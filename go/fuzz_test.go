@@ -83,7 +83,7 @@ func FuzzNext(f *testing.F) {
 	})
 }
 
-// A reader tells the same however a stream comes, and what it reads is what Split gives.
+// A reader tells the same however a stream comes.
 func FuzzReader(f *testing.F) {
 	f.Add(uint8(30), "24 "+string(hello)+"4 <0>1100 xy")
 	f.Add(uint8(4), "5 <0>1x12x")
