@@ -45,8 +45,8 @@ check:
 release:
 	sh scripts/release.sh
 
-# Makes the packages in build/dist from release/: a tarball with a static program, and Debian packages of the program and of the
-# library.
+# Makes the packages in build/dist from release/: a tarball with a static program, a wheel and an sdist for Python, and Debian
+# packages of the program and of the library.
 dist:
 	sh scripts/dist.sh
 

@@ -1,3 +1,3 @@
-module syslogbox
+module cupolachive.example/syslogbox
 
 go 1.19

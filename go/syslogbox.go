@@ -287,27 +287,36 @@ func View(record []byte) (*Record, error) {
 	return r, nil
 }
 
-// CountError says which octet cannot belong to the count of a frame, by its offset in the piece.
+// CountError says which octet cannot belong to the count of a frame, by its offset in the piece, or of a Reader on the
+// stream.
 type CountError struct{ Offset int }
 
 func (e *CountError) Error() string {
 	return fmt.Sprintf("syslogbox: octet %d cannot belong to a count", e.Offset)
 }
 
+// bounds gives where the next frame of a stream begins and ends, and how many octets it takes: 0 if it is not whole
+// yet, and its end is then known only from its count.
+func bounds(framing Framing, piece []byte) (start, end, taken int, err error) {
+	var from, to C.size_t
+	n := C.syslogbox_frame(C.int(framing), octets(piece), C.size_t(len(piece)), &from, &to)
+	switch {
+	case n == -2:
+		return 0, 0, 0, fmt.Errorf("syslogbox: there is no framing %d", int(framing))
+	case n < 0:
+		return 0, 0, 0, &CountError{int(from)}
+	}
+	return int(from), int(to), int(n), nil
+}
+
 // Next returns the next frame of a stream that begins with the piece, and how many octets it takes: 0 if none is whole
 // yet. The error is a *CountError if no frame begins so.
 func Next(framing Framing, piece []byte) (frame []byte, taken int, err error) {
-	var start, end C.size_t
-	n := C.syslogbox_frame(C.int(framing), octets(piece), C.size_t(len(piece)), &start, &end)
-	switch {
-	case n == -2:
-		return nil, 0, fmt.Errorf("syslogbox: there is no framing %d", int(framing))
-	case n < 0:
-		return nil, 0, &CountError{int(start)}
-	case n == 0:
-		return nil, 0, nil
+	start, end, taken, err := bounds(framing, piece)
+	if err != nil || taken == 0 {
+		return nil, 0, err
 	}
-	return piece[start:end], int(n), nil
+	return piece[start:end], taken, nil
 }
 
 // Split returns a function by which a bufio.Scanner goes over the frames of a stream; its Buffer sets how long one may

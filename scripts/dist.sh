@@ -1,6 +1,6 @@
 #!/bin/sh
-# Makes the packages in build/dist: a tarball with a static program and the library for C, and where dpkg-deb is there Debian
-# packages of both.
+# Makes the packages in build/dist: a tarball with a static program and the library for C; where python3 is there, a wheel and
+# an sdist for Python; and where dpkg-deb is there, Debian packages of the program and the library.
 # Of one release they are the same octets wherever they are made: their time is that of the version in CHANGELOG.md.
 set -eu
 umask 022
@@ -57,7 +57,7 @@ recipes() {
     files "$1" cluster/README.md cluster/*.sh cluster/*.py cluster/slurm/*.sh
 }
 bindings() {
-    files "$1" python/*.py python/pyproject.toml go/*.go go/go.mod
+    files "$1" python/*.py python/pyproject.toml python/syslogbox/*.py python/syslogbox/py.typed go/*.go go/go.mod
 }
 
 # The library for C below a folder, as install-library.sh puts it there, without symbols for a debugger.
@@ -77,6 +77,12 @@ tarball() {
     files "$tree" README.md CHANGELOG.md docs/*.md docs/pictures/*.svg contrib/*.conf examples/*
     recipes "$tree"
     bindings "$tree"
+    if command -v python3 > /dev/null; then
+        python3 -B "$tree/python/backend.py" "$dist" > /dev/null
+        python3 -B scripts/go_proxy.py "$tree/goproxy"
+    else
+        echo "There is no python3 here, so neither a wheel nor the module of Go was made."
+    fi
     (cd "$tree" && find . -type f | sort | xargs sha256sum) > "$dist/sums"
     mv "$dist/sums" "$tree/SHA256SUMS"
     settle "$tree"

@@ -4,6 +4,7 @@
 usage: tests/run.py PROGRAM INJECTION TRIAL [PART..]
        tests/run.py soak PROGRAM [--seconds N | --cases N] [--seed N] [--jobs N]
        tests/run.py algebra PROGRAM [--rounds N] [--seed N]
+       tests/run.py bindings PROGRAM [--records N] [--seed N]
        tests/run.py stores PROGRAM TRIAL [--rounds N] [--disks N] [--seed N]
        tests/run.py clients PROGRAM [--seconds N]
        tests/run.py noisy PROGRAM [--seconds N] [--folder FOLDER] [KIND..]
@@ -42,6 +43,7 @@ AT_THE_END = ["soak", "colliding_ids", "noisy_senders"]
 MODULES = {"soak": "hostile.soak"}
 PARTS = SIDE_BY_SIDE + AT_THE_END
 ALONE = {"soak": "hostile.soak", "algebra": "hostile.archives", "stores": "hostile.stores", "clients": "hostile.clients",
+         "bindings": "bindings.lines",
          "mutants": "mutants.run", "noisy": "cases.noisy_senders", "senders": "peers.senders", "load": "peers.load", "cluster": "peers.cluster",
          "serve-clients": "peers.serve_clients", "serve-soak": "peers.serve_soak", "serve-load": "peers.serve_load"}
 

@@ -2,18 +2,18 @@
 rows and random octets, with rooms that are an octet too small, and with null pointers."""
 import ast
 import contextlib
-import doctest
-import importlib
 import io
 import json
 import logging
-import os
 import shutil
-import subprocess
 import sys
 import time
 from random import Random
 
+from bindings import python_package
+from bindings.building import SANITIZED, SHARED, compiled, for_go, loaded_package
+from bindings.go_module import go_module
+from bindings.lines import lines
 from cases.colliding_ids import FRONT, STACK, colliding, data, fitting, ids, most
 from cases.legacy import changed, forms, zone
 from cases.mutated import mutations
@@ -25,8 +25,8 @@ KINDS = {b"syntax": 1, b"instant-range": 2, b"repeated-id": 3, b"legacy-not-utf8
          b"bad-entry": 7, b"not-canonical": 8, b"not-ascending": 9}
 FIELDS = [b"", b"priority", b"version", b"timestamp", b"hostname", b"app-name", b"procid", b"msgid", b"structured-data", b"message",
           b"left", b"right"]
-SANITIZED = ["-g", "-O1", "-fsanitize=address,undefined", "-fno-sanitize-recover=all", "-Wall", "-Wextra", "-Werror"]
 COUNT = 100_000
+LINES = 3_000
 TOO_LONG = 15, 0, reference.ENTRY_MAX
 LONGEST = b"<0>1 - - - - - - " + b"x" * (reference.ENTRY_MAX - 17)  # a record of as many octets as are read
 MOST = 1_000  # milliseconds that a call takes at most
@@ -67,14 +67,6 @@ def known(program):
     return [row[0] for row in rows] + frames + [LONGEST, LONGEST + b"x"], answers + [LONGEST, TOO_LONG]
 
 
-def compiled(folder, name, sources, *words):
-    """A program in C over the static library."""
-    path = folder.path / name
-    library = [ROOT / "build/libsyslogbox.a"]
-    status, _, notes = run("gcc", ["-I", ROOT / "include", *words, "-o", path, *sources, *library])
-    return str(path), status == 0, notes.decode(errors="replace")
-
-
 def in_c(program, results, folder, frames, answers):
     calls, built, said = compiled(folder, "calls", [ROOT / "tests/bindings/calls.c"], *SANITIZED)
     results.check("C: the calls are compiled", built, said)
@@ -98,6 +90,18 @@ def in_c(program, results, folder, frames, answers):
     if built:
         without_memory(program, results, calls)
         hardest(results, folder, calls)
+
+
+def header(results, folder):
+    """The header alone is a program in C99 and in C++."""
+    for compiler, standard in [("gcc", "c99"), ("g++", "c++11")]:
+        if not shutil.which(compiler):
+            results.skip(f"the header in {standard}", f"there is no {compiler}")
+            continue
+        words = [f"-std={standard}", "-pedantic-errors", "-Wall", "-Wextra", "-Werror", "-fsyntax-only", "-I", ROOT / "include"]
+        suffix = "c" if compiler == "gcc" else "cc"
+        source = folder.file(f"header.{suffix}", b"#include <syslogbox.h>\nint main(void) { return syslogbox_check(0, 0, 0); }\n")
+        results.same(f"the header in {standard}", run(compiler, [*words, source]), (0, b"", b""))
 
 
 def hardest(results, folder, calls):
@@ -184,12 +188,6 @@ class Pieces(io.RawIOBase):
         return some
 
 
-def python_module():
-    os.environ["SYSLOGBOX_LIBRARY"] = str(ROOT / "build/libsyslogbox.so.0")
-    sys.path.insert(0, str(ROOT / "python"))
-    return importlib.import_module("syslogbox")
-
-
 def answer_of(module, record):
     try:
         module.check(record)
@@ -199,7 +197,7 @@ def answer_of(module, record):
 
 
 def in_python(program, results, folder, frames, answers):
-    module = python_module()
+    module = loaded_package()
     wrong = next((f"{frame!r}" for frame, right in zip(frames, answers) if answer_of(module, frame) != right), "")
     results.check("Python: records", not wrong, wrong)
     right = sum(isinstance(answer, bytes) for answer in answers)
@@ -221,7 +219,7 @@ def in_python(program, results, folder, frames, answers):
         status, output, _ = program.run(["merge", folder.file("left", left), folder.file("right", right)])
         if status == 0:
             results.check(f"Python: a union of {len(left)} and {len(right)} octets", module.union(left, right) == output)
-    results.check("Python: the module's examples", doctest.testmod(module).failed == 0)
+    python_package.package(results, folder, module, frames, answers)
     python_streams(results, module, some)
     python_checks(results, module, frames, answers)
     all_checked(results, module, frames, answers)
@@ -293,17 +291,19 @@ def many_params(results, module):
 
 
 def shown_as_json(program, results, module, records):
-    """What `view` gives is what `show --json` prints."""
+    """What `asdict` gives is what `show --json` prints, its keys in the same order."""
     some = [record for record in records if 0 < len(record) <= module.FRAME_MAX]
-    lines = program.run(["show", "--json", "--framing", "counted"], reference.counted(some))[1].splitlines()
-    wrong = next((f"{record!r}" for record, line in zip(some, lines) if not same_json(module.view(record), json.loads(line))), "")
-    results.check(f"Python: {len(some)} records as `show --json` has them", len(lines) == len(some) and not wrong, wrong)
+    rows = program.run(["show", "--json", "--framing", "counted"], reference.counted(some))[1].splitlines()
+    wrong = next((f"{record!r}" for record, row in zip(some, rows) if not same_object(module.view(record).asdict(), json.loads(row))), "")
+    results.check(f"Python: {len(some)} records as `show --json` has them", len(rows) == len(some) and not wrong, wrong)
 
 
-def same_json(seen, right):
-    words = seen.hostname, seen.app_name, seen.proc_id, seen.msg_id
-    data = {element.id: [list(param) for param in element.params] for element in seen.elements}
-    return (seen.priority, *words, data) == tuple(right[key] for key in ("priority", "host", "app", "proc", "msgid", "data"))
+def same_object(seen, right):
+    return seen == right and list(seen) == list(right) and list(seen["data"]) == list(right["data"])
+
+
+def timestamp_of(record):
+    return None if record.micros is None else reference.timestamp(record.micros).decode()
 
 
 def parts_of(record):
@@ -386,16 +386,13 @@ def installed(results, folder):
 
 def in_go(results, folder, frames, answers):
     if not shutil.which("go"):
-        print("SKIPPED the package in Go: there is no go")
+        results.skip("the module in Go", "there is no go")
         return
-    to = folder.path / "prefix"
-    subprocess.run(["sh", "scripts/install-library.sh", to, to], cwd=ROOT, check=True)
-    # go keeps what pkg-config told for another folder, but for other flags of its own
-    environment = {"PKG_CONFIG_PATH": str(to / "lib/pkgconfig"), "LD_LIBRARY_PATH": str(to / "lib"), "CGO_LDFLAGS": f"-L{to}/lib",
-                   "GOFLAGS": "-mod=mod", "SYSLOGBOX_ANSWERS": written(folder, "records", frames, answers)}
+    environment = {**for_go(folder), "SYSLOGBOX_ANSWERS": written(folder, "records", frames, answers)}
     for words in (["vet", "./..."], ["test", "-count=1", "./..."]):
         status, output, notes = run("go", words, environment=environment, cwd=ROOT / "go", timeout=300)
         results.check(f"Go: go {words[0]}", status == 0, (output + notes)[-400:].decode(errors="replace"))
+    go_module(results, folder, environment)
 
 
 def examples(program, results, folder, frames):
@@ -411,12 +408,12 @@ def examples(program, results, folder, frames):
         results.check(f"the example in C drops refused frames, {framing}",
                       (status, output, notes.count(b"\n")) == (1, right, refused), f"{status} {len(output)} {notes[:100]!r}")
     archive = program.run(["archive", "--framing", "counted"], reference.counted(some))[1]
-    environment = {"PYTHONPATH": str(ROOT / "python"), "SYSLOGBOX_LIBRARY": str(ROOT / "build/libsyslogbox.so.0")}
+    environment = {"PYTHONPATH": str(ROOT / "python"), "SYSLOGBOX_LIBRARY": SHARED}
     script = [ROOT / "examples/archive_to_dicts.py", folder.file("archive", archive)]
     status, output, notes = run(sys.executable, script, environment=environment)
     dicts = ast.literal_eval(output.decode()) if status == 0 else []
     read = [reference.read(entry) for entry in reference.archive_read(archive)[0]]
-    same = [(one["priority"], one["micros"]) for one in dicts] == [parts_of(one)[:2] for one in read]
+    same = [(one["priority"], one["time"]) for one in dicts] == [(one.priority, timestamp_of(one)) for one in read]
     results.check("the example in Python reads an archive", status == 0 and len(dicts) > 100 and same, notes[-300:])
     status, _, notes = run(sys.executable, [script[0], folder.file("archive", b"x")], environment=environment)
     results.check("the example in Python tells a fault", status == 1 and b"octet 0" in notes, notes)
@@ -431,8 +428,10 @@ def bindings(program, results):
     exported = run("nm", ["-D", "--defined-only", ROOT / "build/libsyslogbox.so.0"])[1].split()[2::3]
     calls = sorted(f"syslogbox_{name}".encode() for name in "canonical check element frame legacy param pass spans union value view".split())
     results.check("the shared library has the header's calls alone", sorted(exported) == calls, str(exported))
+    header(results, program.folder)
     in_c(program, results, program.folder, frames, answers)
     in_python(program, results, program.folder, frames, answers)
     installed(results, program.folder)
     examples(program, results, program.folder, frames)
     in_go(results, program.folder, frames, answers)
+    lines(program, results, program.folder, LINES)

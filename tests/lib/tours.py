@@ -32,8 +32,8 @@ def folder_of(program, name):
     return folder / "work", f"{folder / 'bin'}:{os.environ['PATH']}"
 
 
-def take(command, folder, path):
+def take(command, folder, path, **environment):
     """Runs a command as a terminal does: its status, and all that it prints."""
-    done = subprocess.run(["bash", "-c", command], cwd=folder, env={**os.environ, "PATH": path, "LC_ALL": "C"},
+    done = subprocess.run(["bash", "-c", command], cwd=folder, env={**os.environ, "PATH": path, "LC_ALL": "C", **environment},
                           stdin=subprocess.DEVNULL, stdout=subprocess.PIPE, stderr=subprocess.STDOUT, text=True, timeout=60)
     return done.returncode, done.stdout.splitlines()

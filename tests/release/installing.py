@@ -56,13 +56,13 @@ def in_c(name, room, results, told, environment=None):
 
 
 def library_tour(room, results):
-    """The program of docs/LIBRARY.md, by the commands that stand there."""
+    """The program in C of docs/LIBRARY.md, by the commands that stand below it."""
     if lacking("pkg-config"):
         results.skip("the tour of docs/LIBRARY.md", "there is no pkg-config")
         return
     folder = clone(room / "tour")
     status, said = run(["make", "-s", "lib"], cwd=folder)
-    text = (folder / "docs/LIBRARY.md").read_text()
+    text = (folder / "docs/LIBRARY.md").read_text().split("\n## C\n")[1].split("\n## ")[0]
     (program,) = re.findall(r"^```c\n(.*?)^```$", text, re.MULTILINE | re.DOTALL)
     (folder / "program.c").write_text(program)
     steps = tours.steps(text)

@@ -13,10 +13,11 @@ from results import ROOT, clone, lacking, name_sources, run
 
 LINK = re.compile(r"\]\(([^)#:\s]+)(?:#[^)\s]*)?\)")
 OF_THE_TARBALL = ["README.md", "CHANGELOG.md", "docs/*.md", "docs/pictures/*", "contrib/*.conf", "examples/*", "include/*.h", "python/*.py",
-                  "python/*.toml", "go/*", "cluster/*.*", "cluster/slurm/*"]
+                  "python/*.toml", "python/syslogbox/*", "go/*", "cluster/*.*", "cluster/slurm/*"]
 OF_THE_PACKAGE = {"README.md": "", "docs/*.md": "", "docs/pictures/*": "pictures", "contrib/*.conf": "examples",
                   "cluster/*.*": "examples/cluster", "cluster/slurm/*": "examples/cluster/slurm"}
-OF_THE_LIBRARY = {"docs/LIBRARY.md": "", "examples/*": "examples", "python/*.*": "examples/python", "go/*": "examples/go"}
+OF_THE_LIBRARY = {"docs/LIBRARY.md": "", "examples/*": "examples", "python/*.*": "examples/python",
+                  "python/syslogbox/*": "examples/python/syslogbox", "go/*": "examples/go"}
 
 
 def made(folder, **environment):
@@ -46,17 +47,19 @@ def packages(room, results):
     for it in [folder, another]:
         name_sources(it)
     subprocess.run(["chmod", "-R", "go=", str(another)], check=True)
+    version = run(["sh", "scripts/version.sh"], cwd=folder)[1].strip()
     files, said = made(folder)
     other, _ = made(another, TZ="Asia/Tokyo", LC_ALL="C.UTF-8", CDPATH="/:/usr")
-    results.check("make dist makes its packages", any(name.endswith(".tar.gz") for name in files), said)
+    endings = ["-linux-x86_64.tar.gz", f"syslogbox-{version}.tar.gz", ".whl"]
+    made_all = all(any(name.endswith(ending) for name in files) for ending in endings)
+    results.check("make dist makes its packages", made_all, said)
     results.check("twice the same packages", list(files) == list(other), f"{list(files)} {list(other)}")
     for name in files.keys() & other.keys():
         results.check(f"twice the same octets: {name}", files[name].read_bytes() == other[name].read_bytes())
-    version = run(["sh", "scripts/version.sh"], cwd=folder)[1].strip()
     entries = [line for line in (folder / "CHANGELOG.md").read_text().splitlines() if line.startswith("## ")]
     results.check("the first entry of CHANGELOG.md is the version", entries[0].startswith(f"## {version} ("), entries[0])
     for name, file in files.items():
-        if name.endswith(".tar.gz"):
+        if name.endswith("-linux-x86_64.tar.gz"):
             tarball(file, version, room, results)
     packed = {name.split("_")[0]: file for name, file in files.items() if name.endswith(".deb")}
     if packed:
@@ -83,6 +86,10 @@ def tarball(file, version, room, results):
     libraries = {"LD_LIBRARY_PATH": str(folder / "lib")}
     in_c("the tarball", room, results, {"PKG_CONFIG_PATH": str(folder / "lib/pkgconfig")}, libraries)
     wheel(folder, results)
+    downloads = folder / "goproxy/cupolachive.example/syslogbox/@v"
+    names = {path.name for path in downloads.iterdir()} if downloads.is_dir() else set()
+    right = {"list", *(f"v{version}.{suffix}" for suffix in ("info", "mod", "zip"))}
+    results.check("the tarball has the module of Go", names == right, str(names))
 
 
 def wheel(folder, results):
@@ -93,7 +100,7 @@ def wheel(folder, results):
         results.check("the wheel is built in the tarball", False, said)
         return
     with zipfile.ZipFile(folder / said.strip()) as made:
-        same = made.read("libsyslogbox.so.0") == (folder / "lib/libsyslogbox.so.0").read_bytes()
+        same = made.read("syslogbox/libsyslogbox.so.0") == (folder / "lib/libsyslogbox.so.0").read_bytes()
     results.check("the wheel that is built in the tarball has the library", same)
 
 

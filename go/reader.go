@@ -1,0 +1,221 @@
+package syslogbox
+
+import (
+	"bufio"
+	"bytes"
+	"context"
+	"errors"
+	"fmt"
+	"io"
+	"time"
+)
+
+// FrameError tells of a frame of a stream that is not a record. Err says why: a *Fault, by which errors.As finds the
+// field and the octet, or bufio.ErrTooLong.
+type FrameError struct {
+	Number   int    // of the frame, from 1 on
+	Position int64  // of its first octet on the stream
+	Octets   []byte // what is in the frame; nil if it is too long
+	Err      error
+}
+
+func (e *FrameError) Error() string {
+	return fmt.Sprintf("frame %d: %v", e.Number, e.Err)
+}
+
+func (e *FrameError) Unwrap() error { return e.Err }
+
+// Reader reads records from a stream of frames.
+type Reader struct {
+	source  io.Reader
+	framing Framing
+	longest int
+
+	held     []byte // octets that were read, and not yet given
+	failed   error  // what the source said behind them
+	number   int    // how many frames were begun
+	position int64  // how many octets came before those that are held
+	left     int64  // how many octets of a frame that is too long have still to come
+	inLine   bool   // whether a line that is too long has still to end
+}
+
+// NewReader returns a Reader of a stream. Frames of more than FrameMax octets are too long, unless Longest says
+// otherwise.
+func NewReader(source io.Reader, framing Framing) *Reader {
+	return &Reader{source: source, framing: framing, longest: FrameMax}
+}
+
+// Longest sets how many octets a frame may have: EntryMax for archives.
+func (r *Reader) Longest(octets int) { r.longest = octets }
+
+// Read returns the next record. The error is a *FrameError in the place of each frame that is not one; the next call
+// goes on behind it. At the end of the stream it is io.EOF, and inside a frame io.ErrUnexpectedEOF; a *CountError where
+// no count begins; and else what the source says.
+func (r *Reader) Read() (*Record, error) {
+	return r.ReadContext(context.Background())
+}
+
+// ReadContext is Read, and waits no longer than the context lasts; a later call goes on from there. The wait of a source
+// with SetReadDeadline, such as a connection, ends at once, and its deadline is then taken away. That of any other ends
+// with its next octets.
+func (r *Reader) ReadContext(ctx context.Context) (*Record, error) {
+	for {
+		if err := r.passOver(ctx); err != nil {
+			return nil, r.ended(err)
+		}
+		start, end, taken, err := bounds(r.framing, r.held)
+		if count := (*CountError)(nil); errors.As(err, &count) {
+			return nil, &CountError{int(r.position) + count.Offset}
+		}
+		switch {
+		case err != nil:
+			return nil, err
+		case taken > 0 && end-start <= r.longest:
+			return r.record(start, end, taken)
+		case taken > 0:
+			return nil, r.tooLong(taken)
+		case end-start > r.longest:
+			return nil, r.tooLong(end)
+		case r.framing == LF && len(r.held) > r.longest:
+			r.inLine = true
+			return nil, r.tooLong(len(r.held))
+		}
+		if err := r.fill(ctx); err != nil {
+			return nil, r.ended(err)
+		}
+	}
+}
+
+// All goes over the records and the errors of Read, up to the end of the stream or up to an error that is not a
+// *FrameError.
+func (r *Reader) All() func(yield func(*Record, error) bool) {
+	return func(yield func(*Record, error) bool) {
+		for {
+			record, err := r.Read()
+			if err == io.EOF || !yield(record, err) {
+				return
+			}
+			if refused := (*FrameError)(nil); err != nil && !errors.As(err, &refused) {
+				return
+			}
+		}
+	}
+}
+
+// record takes a whole frame.
+func (r *Reader) record(start, end, taken int) (*Record, error) {
+	frame := append([]byte(nil), r.held[start:end]...)
+	position := r.position
+	r.number++
+	r.drop(taken)
+	record, err := View(frame)
+	if err != nil {
+		return nil, &FrameError{r.number, position, frame, err}
+	}
+	return record, nil
+}
+
+// tooLong tells of a frame, of which the next call passes over so many octets.
+func (r *Reader) tooLong(octets int) error {
+	r.number++
+	r.left = int64(octets)
+	return &FrameError{r.number, r.position, nil, bufio.ErrTooLong}
+}
+
+// passing says whether the stream is inside a frame that is too long.
+func (r *Reader) passing() bool { return r.left > 0 || r.inLine }
+
+// passOver drops what is left of a frame that is too long.
+func (r *Reader) passOver(ctx context.Context) error {
+	for r.passing() {
+		if len(r.held) == 0 {
+			if err := r.fill(ctx); err != nil {
+				return err
+			}
+		}
+		if r.left == 0 {
+			r.left = int64(len(r.held))
+			if at := bytes.IndexByte(r.held, '\n'); at >= 0 {
+				r.left, r.inLine = int64(at+1), false
+			}
+		}
+		here := len(r.held)
+		if r.left < int64(here) {
+			here = int(r.left)
+		}
+		r.left -= int64(here)
+		r.drop(here)
+	}
+	return nil
+}
+
+func (r *Reader) drop(octets int) {
+	r.held = r.held[octets:]
+	r.position += int64(octets)
+}
+
+// ended is what the end of the source is to the reader: io.EOF between two frames alone.
+func (r *Reader) ended(err error) error {
+	if err != io.EOF || len(r.held) == 0 && !r.passing() {
+		return err
+	}
+	return fmt.Errorf("syslogbox: the stream ends inside a frame: %w", io.ErrUnexpectedEOF)
+}
+
+const (
+	piece = 64 << 10 // the room for one reading
+	idle  = 100      // how often a source may give nothing
+)
+
+// fill holds what the source gives next.
+func (r *Reader) fill(ctx context.Context) error {
+	if cap(r.held)-len(r.held) < piece/2 {
+		r.held = append(make([]byte, 0, 2*len(r.held)+piece), r.held...)
+	}
+	for tries := 0; tries < idle; tries++ {
+		if err := r.failed; err != nil {
+			r.failed = nil
+			return err
+		}
+		n, err := r.wait(ctx, r.held[len(r.held):cap(r.held)])
+		r.held, r.failed = r.held[:len(r.held)+n], err
+		if n > 0 {
+			return nil
+		}
+	}
+	return io.ErrNoProgress
+}
+
+// wait reads from the source as long as the context lasts.
+func (r *Reader) wait(ctx context.Context, room []byte) (int, error) {
+	if err := ctx.Err(); err != nil {
+		return 0, err
+	}
+	source, bounded := r.source.(interface{ SetReadDeadline(time.Time) error })
+	if !bounded || ctx.Done() == nil {
+		return r.source.Read(room)
+	}
+	read, watched := make(chan struct{}), make(chan struct{})
+	go func() {
+		defer close(watched)
+		select {
+		case <-ctx.Done():
+			_ = source.SetReadDeadline(time.Unix(1, 0))
+		case <-read:
+		}
+	}()
+	n, err := r.source.Read(room)
+	close(read)
+	<-watched
+	if ctx.Err() == nil {
+		return n, err
+	}
+	_ = source.SetReadDeadline(time.Time{})
+	if timeout, is := err.(interface{ Timeout() bool }); is && timeout.Timeout() {
+		err = nil
+		if n == 0 {
+			err = ctx.Err()
+		}
+	}
+	return n, err
+}

@@ -1,0 +1,198 @@
+package syslogbox
+
+import (
+	"bufio"
+	"context"
+	"errors"
+	"fmt"
+	"io"
+	"net"
+	"os"
+	"strings"
+	"testing"
+	"testing/iotest"
+	"time"
+)
+
+const nil16 = "16 <0>1 - - - - - -"
+
+// read tells what a reader gives, up to what ends it.
+func read(r *Reader) (told []string) {
+	for {
+		record, err := r.Read()
+		var refused *FrameError
+		switch {
+		case err == nil:
+			told = append(told, fmt.Sprintf("record %s", record.Message))
+		case errors.As(err, &refused):
+			told = append(told, fmt.Sprintf("%d at %d: %v", refused.Number, refused.Position, refused.Err))
+		default:
+			return append(told, err.Error())
+		}
+	}
+}
+
+func TestReader(t *testing.T) {
+	long, end := strings.Repeat("x", FrameMax+1), "syslogbox: the stream ends inside a frame: unexpected EOF"
+	fault, tooLong := "syslogbox: version: syntax at octet 4", "bufio.Scanner: token too long"
+	for _, row := range []struct {
+		framing Framing
+		stream  string
+		told    string
+	}{
+		{Counted, "", "EOF"},
+		{Counted, "24 " + string(hello) + nil16, "record hello|record |EOF"},
+		{Counted, "5 <0>1x" + nil16, "1 at 0: " + fault + "|record |EOF"},
+		{Counted, nil16 + "262145 " + long + nil16, "record |2 at 19: " + tooLong + "|record |EOF"},
+		{Counted, nil16 + "262145 " + long[1:], "record |2 at 19: " + tooLong + "|" + end},
+		{Counted, nil16 + "24 <165>", "record |" + end},
+		{Counted, nil16 + "12x", "record |syslogbox: octet 21 cannot belong to a count"},
+		{LF, string(hello) + "\n<0>1\n", "record hello|2 at 25: " + fault + "|EOF"},
+		{LF, long + "\n" + string(hello) + "\n", "1 at 0: " + tooLong + "|record hello|EOF"},
+		{LF, string(hello) + "\n" + long, "record hello|2 at 25: " + tooLong + "|" + end},
+		{LF, string(hello), end},
+		{3, "x", "syslogbox: there is no framing 3"},
+	} {
+		for name, of := range map[string]func(io.Reader) io.Reader{
+			"whole": func(r io.Reader) io.Reader { return r }, "halves": iotest.HalfReader, "the end": iotest.DataErrReader,
+		} {
+			told := strings.Join(read(NewReader(of(strings.NewReader(row.stream)), row.framing)), "|")
+			if told != row.told {
+				t.Errorf("%.30q, %s: %s for %s", row.stream, name, told, row.told)
+			}
+		}
+	}
+}
+
+// Any frame may arrive an octet at a time, and Longest sets the limit.
+func TestLongest(t *testing.T) {
+	r := NewReader(iotest.OneByteReader(strings.NewReader("24 "+string(hello)+nil16)), Counted)
+	r.Longest(16)
+	if told := strings.Join(read(r), "|"); told != "1 at 0: bufio.Scanner: token too long|record |EOF" {
+		t.Fatal(told)
+	}
+}
+
+func TestErrors(t *testing.T) {
+	broken, again := errors.New("broken"), 0
+	_, err := NewReader(io.MultiReader(strings.NewReader("24 <165>"), iotest.ErrReader(broken)), Counted).Read()
+	if err != broken {
+		t.Fatal(err)
+	}
+	if _, err = NewReader(readerFunc(func([]byte) (int, error) { again++; return 0, nil }), LF).Read(); err != io.ErrNoProgress {
+		t.Fatal(err, again)
+	}
+	fault := (*Fault)(nil)
+	_, err = NewReader(strings.NewReader("<0>1\n"), LF).Read()
+	if !errors.As(err, &fault) || fault.Field != FieldVersion || fault.Offset != 4 {
+		t.Fatal(err)
+	}
+	_, err = NewReader(strings.NewReader("300000 "), Counted).Read()
+	if !errors.Is(err, bufio.ErrTooLong) || errors.As(err, &fault) {
+		t.Fatal(err)
+	}
+	if _, err = NewReader(strings.NewReader("300"), Counted).Read(); !errors.Is(err, io.ErrUnexpectedEOF) {
+		t.Fatal(err)
+	}
+}
+
+type readerFunc func([]byte) (int, error)
+
+func (f readerFunc) Read(room []byte) (int, error) { return f(room) }
+
+func TestAll(t *testing.T) {
+	for stream, right := range map[string]int{nil16 + "1 x" + nil16: 3, nil16 + "12x" + nil16: 2, "": 0} {
+		count := 0
+		NewReader(strings.NewReader(stream), Counted).All()(func(*Record, error) bool { count++; return true })
+		if count != right {
+			t.Errorf("%q: %d", stream, count)
+		}
+		NewReader(strings.NewReader(stream), Counted).All()(func(*Record, error) bool { count--; return false })
+	}
+}
+
+// A context ends the wait for a connection, also inside a frame, and reading goes on from there.
+func TestReadContext(t *testing.T) {
+	source, sender := net.Pipe()
+	defer sender.Close()
+	r := NewReader(source, Counted)
+	for _, row := range []struct {
+		part    string
+		records int
+	}{{"", 0}, {"16 <0>1 ", 0}, {"- - - - - -16", 1}} {
+		ctx, cancel := context.WithCancel(context.Background())
+		go func(part string) {
+			sender.Write([]byte(part)) // returns when all of it was read
+			cancel()
+		}(row.part)
+		count, err := 0, error(nil)
+		for ; err == nil; count++ {
+			_, err = r.ReadContext(ctx)
+		}
+		if count-1 != row.records || err != context.Canceled {
+			t.Fatalf("%q: %d records, %v", row.part, count-1, err)
+		}
+	}
+	go func() {
+		sender.Write([]byte(" <0>1 - - - - - -"))
+		sender.Close()
+	}()
+	if record, err := r.ReadContext(context.Background()); err != nil || record.Severity != 0 {
+		t.Fatal(record, err)
+	}
+	if _, err := r.Read(); err != io.EOF {
+		t.Fatal(err)
+	}
+	ctx, cancel := context.WithCancel(context.Background())
+	cancel()
+	for _, r := range []*Reader{r, NewReader(strings.NewReader(nil16), Counted)} {
+		if _, err := r.ReadContext(ctx); err != context.Canceled {
+			t.Fatal(err)
+		}
+	}
+}
+
+// The deadline of a connection is its own where the context is not the reason.
+func TestOwnDeadline(t *testing.T) {
+	source, sender := net.Pipe()
+	defer sender.Close()
+	source.SetReadDeadline(time.Now().Add(10 * time.Millisecond))
+	ctx, cancel := context.WithTimeout(context.Background(), time.Minute)
+	defer cancel()
+	if _, err := NewReader(source, LF).ReadContext(ctx); !errors.Is(err, os.ErrDeadlineExceeded) {
+		t.Fatal(err)
+	}
+}
+
+func ExampleReader() {
+	stream := strings.NewReader("24 <165>1 - - - - - - hello4 <0>1")
+	reader := NewReader(stream, Counted)
+	for {
+		record, err := reader.Read()
+		if err == io.EOF {
+			break
+		}
+		var fault *Fault
+		if errors.As(err, &fault) {
+			fmt.Println("refused:", fault.Field, fault.Offset)
+			continue
+		}
+		if err != nil {
+			fmt.Println(err)
+			break
+		}
+		fmt.Printf("%s\n", record.Message)
+	}
+	// Output:
+	// hello
+	// refused: version 4
+}
+
+func ExampleRecord_AppendJSON() {
+	record, err := View([]byte(`<34>1 2003-10-11T22:14:15.003Z host su - ID47 [b][a@1 k="v"] hi`))
+	if err != nil {
+		panic(err)
+	}
+	fmt.Printf("%s\n", record.AppendJSON(nil)[:95])
+	// Output: {"priority":34,"facility":"auth","severity":"crit","time":"2003-10-11T22:14:15.003000Z","host":
+}

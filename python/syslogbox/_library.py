@@ -1,0 +1,106 @@
+"""The calls of libsyslogbox by ctypes."""
+from __future__ import annotations
+
+import ctypes
+import os
+import struct
+from pathlib import Path
+from typing import Any, Callable, Type
+
+from ._faults import Kind, SyslogError
+
+NAME = "libsyslogbox.so.0"
+OCTETS, SIZE, POINTER = ctypes.c_char_p, ctypes.c_size_t, ctypes.c_void_p
+
+
+class Fault(ctypes.Structure):
+    _fields_ = [("kind", ctypes.c_uint32), ("field", ctypes.c_uint32), ("offset", ctypes.c_uint64)]
+
+
+class Span(ctypes.Structure):
+    _fields_ = [("offset", ctypes.c_size_t), ("len", ctypes.c_size_t)]
+
+
+class Parts(ctypes.Structure):
+    _fields_ = [
+        ("time", ctypes.c_int64),
+        *((name, ctypes.c_uint32) for name in ("has_time", "facility", "severity", "has_bom")),
+        *((name, Span) for name in ("hostname", "app_name", "proc_id", "msg_id", "structured_data")),
+        ("elements", ctypes.c_size_t),
+        ("message", Span),
+    ]
+
+
+#: struct syslogbox_part_span: the part, the offset and the length
+PART_SPAN = struct.Struct("@INN")
+#: numbers of enum syslogbox_part
+ELEMENT_ID, PARAM_NAME = 8, 9
+#: how many fields come before the structured data
+FIELDS = 7
+
+
+def _path() -> str:
+    beside = Path(__file__).resolve().parent / NAME
+    return os.environ.get("SYSLOGBOX_LIBRARY") or (str(beside) if beside.exists() else NAME)
+
+
+try:
+    # most calls are short, and keep the interpreter's lock, which costs less; those of many records give it back
+    _keeping, _releasing = ctypes.PyDLL(_path()), ctypes.CDLL(_path())
+except OSError as _missing:
+    raise ImportError(
+        f"{_missing}; the variable SYSLOGBOX_LIBRARY names the library that `make lib` builds") from None
+
+
+def _call(name: str, result: Any, *arguments: Any, library: ctypes.CDLL = _keeping) -> Callable[..., int]:
+    function = library[f"syslogbox_{name}"]  # each time another object, with types of its own
+    function.restype, function.argtypes = result, arguments
+    return function
+
+
+check = _call("check", ctypes.c_int, OCTETS, SIZE, POINTER)
+# the same for a length that is an int of C, of which ctypes makes no object: it takes a third less
+check_short = _call("check", ctypes.c_int, OCTETS)
+SHORT = 2 ** 31
+canonical = _call("canonical", ctypes.c_int64, OCTETS, SIZE, POINTER, SIZE, POINTER)
+view = _call("view", ctypes.c_int, OCTETS, SIZE, POINTER, POINTER)
+spans = _call("spans", ctypes.c_int64, OCTETS, SIZE, POINTER, SIZE, POINTER)
+value = _call("value", ctypes.c_int64, OCTETS, SIZE, POINTER, SIZE, POINTER)
+frame = _call("frame", ctypes.c_int64, ctypes.c_int, POINTER, SIZE, POINTER, POINTER)
+pass_over = _call("pass", ctypes.c_int64, ctypes.c_int, POINTER, SIZE, POINTER, library=_releasing)
+union = _call("union", ctypes.c_int64, OCTETS, SIZE, OCTETS, SIZE, POINTER, SIZE, POINTER, library=_releasing)
+legacy = _call("legacy", ctypes.c_int64, ctypes.c_int, ctypes.c_int, OCTETS, SIZE, POINTER, SIZE, POINTER)
+
+
+def no_octets(value: object) -> TypeError:
+    """What a call raises for an argument that is not octets."""
+    return TypeError(f"octets have to be bytes, not {type(value).__name__}")
+
+
+def error_of(error: Type[SyslogError], fault: Fault) -> Exception:
+    """What a fault of the library is in Python."""
+    if fault.kind == Kind.NO_MEMORY:
+        return MemoryError("libsyslogbox is out of memory")
+    return error(fault.kind, fault.field, fault.offset)
+
+
+def address(octets: bytes) -> int:
+    """Where octets are in memory, as long as they are held."""
+    return ctypes.cast(OCTETS(octets), POINTER).value or 0
+
+
+def room_of(out: bytearray) -> Any:
+    """A pointer to a room; an array of ctypes would need a type of its own for each length."""
+    return ctypes.byref(ctypes.c_char.from_buffer(out))
+
+
+def text(error: Type[SyslogError], call: Callable[..., int], room: int, *arguments: object) -> bytes:
+    """What a call writes, into so much room."""
+    out, fault = bytearray(max(room, 1)), Fault()
+    try:
+        written = call(*arguments, room_of(out), room, ctypes.byref(fault))
+    except ctypes.ArgumentError:
+        raise no_octets(next(x for x in arguments if not isinstance(x, (bytes, int)))) from None
+    if written < 0:
+        raise error_of(error, fault)
+    return bytes(memoryview(out)[:written])

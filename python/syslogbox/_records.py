@@ -1,0 +1,234 @@
+"""Records: whether octets are one, its parts and its canonical form."""
+from __future__ import annotations
+
+import base64
+import ctypes
+import json
+from dataclasses import dataclass, field
+from datetime import datetime, timedelta, timezone
+from typing import Any, Dict, Iterator, List, Optional, Tuple
+
+from . import _library as library
+from ._faults import Kind, PacketError, RecordError
+from ._library import SHORT
+from ._library import check as _check
+from ._library import check_short as _check_short
+
+FACILITIES = ("kern", "user", "mail", "daemon", "auth", "syslog", "lpr", "news", "uucp", "cron", "authpriv", "ftp",
+              "ntp", "audit", "alert", "clock", *(f"local{n}" for n in range(8)))
+SEVERITIES = "emerg", "alert", "crit", "err", "warning", "notice", "info", "debug"
+_EPOCH = datetime(1970, 1, 1, tzinfo=timezone.utc)
+_YEAR_1 = -62_135_596_800_000_000  # its first instant, in microseconds
+
+
+@dataclass(frozen=True)
+class Element:
+    """An element of the structured data: its id, and its parameters in order. A name may occur twice."""
+
+    id: str
+    params: Tuple[Tuple[str, str], ...] = ()
+
+
+@dataclass(frozen=True)
+class Record:
+    """The parts of a record. A field that is `-` is None."""
+
+    facility: int
+    severity: int
+    #: microseconds from 1970-01-01T00:00:00Z
+    micros: Optional[int]
+    hostname: Optional[str]
+    app_name: Optional[str]
+    proc_id: Optional[str]
+    msg_id: Optional[str]
+    elements: Tuple[Element, ...] = field(default=())
+    #: the octets of the message, without the BOM
+    message: bytes = b""
+    #: whether the message starts with the BOM, and so is UTF-8
+    bom: bool = False
+
+    @property
+    def priority(self) -> int:
+        """The number between the angle brackets."""
+        return 8 * self.facility + self.severity
+
+    @property
+    def time(self) -> Optional[datetime]:
+        """The instant in UTC. Raises OverflowError in the year 0, which `datetime` does not have."""
+        return None if self.micros is None else _EPOCH + timedelta(microseconds=self.micros)
+
+    @property
+    def timestamp(self) -> Optional[str]:
+        """The instant as the canonical form has it: in UTC, with six digits of the second.
+
+        >>> view(b"<0>1 0000-02-29T01:00:00+01:00 - - - - -").timestamp
+        '0000-02-29T00:00:00.000000Z'
+        """
+        if self.micros is None:
+            return None
+        # `datetime` begins with the year 1, and its calendar has the same days 400 years later
+        later = 400 if self.micros < _YEAR_1 else 0
+        instant = _EPOCH.replace(year=1970 + later) + timedelta(microseconds=self.micros)
+        return f"{instant.year - later:04d}{instant:-%m-%dT%H:%M:%S.%f}Z"
+
+    @property
+    def text(self) -> str:
+        """The message as text; octets that are not UTF-8 are replaced."""
+        return self.message.decode("utf-8", "replace")
+
+    def asdict(self) -> Dict[str, Any]:
+        """The object of `syslogbox show --json`: the same keys and values, in the same order.
+
+        `dataclasses.asdict` has the fields of the record as they are.
+
+        >>> view(b"<165>1 - host - - - - hi").asdict()["facility"]
+        'local4'
+        """
+        data = {element.id: [list(param) for param in element.params]
+                for element in sorted(self.elements, key=lambda element: element.id)}
+        shown: Dict[str, Any] = {
+            "priority": self.priority, "facility": FACILITIES[self.facility], "severity": SEVERITIES[self.severity],
+            "time": self.timestamp, "host": self.hostname, "app": self.app_name, "proc": self.proc_id,
+            "msgid": self.msg_id, "data": data}
+        try:
+            shown["message"] = self.message.decode("utf-8")
+        except UnicodeDecodeError:
+            shown["message_base64"] = base64.b64encode(self.message).decode("ascii")
+        if self.bom:
+            shown["bom"] = True
+        return shown
+
+    def json(self) -> str:
+        """The line of `syslogbox show --json`, without its line feed.
+
+        >>> view(b"<0>1 - - - - - - hi").json()[:45]
+        '{"priority":0,"facility":"kern","severity":"e'
+        """
+        return json.dumps(self.asdict(), ensure_ascii=False, separators=(",", ":"))
+
+
+def is_record(record: bytes) -> bool:
+    """Whether the octets are a record of RFC 5424."""
+    size = len(record)
+    try:
+        return (_check_short if size < SHORT else _check)(record, size, None) == 1
+    except ctypes.ArgumentError:
+        raise library.no_octets(record) from None
+
+
+def check(record: bytes) -> None:
+    """Returns nothing if the octets are a record of RFC 5424.
+
+    Raises RecordError, with the field and the octet, if they are not. `check_all` and `check_stream` check many records
+    faster.
+    """
+    size = len(record)
+    try:
+        answer = (_check_short if size < SHORT else _check)(record, size, None)
+    except ctypes.ArgumentError:
+        raise library.no_octets(record) from None
+    if not answer:
+        raise refusal(record)
+
+
+def refusal(record: bytes) -> RecordError:
+    """Why octets are not a record."""
+    fault = library.Fault()
+    _check(record, len(record), ctypes.byref(fault))
+    return RecordError(fault.kind, fault.field, fault.offset)
+
+
+def canonical(record: bytes) -> bytes:
+    """The one canonical form of the record; equal records have equal octets. Raises RecordError.
+
+    >>> canonical(b"<0>1 2024-02-29T01:00:00+01:00 - - - - - ")
+    b'<0>1 2024-02-29T00:00:00.000000Z - - - - -'
+    """
+    return library.text(RecordError, library.canonical, 2 * len(record) + 7, record, len(record))
+
+
+def view(record: bytes) -> Record:
+    """The parts of the record, its elements in the order of the octets. Raises RecordError.
+
+    The time grows with the length of the record.
+
+    >>> view(b'<34>1 - host su - ID47 [a@1 k="v"] text').elements
+    (Element(id='a@1', params=(('k', 'v'),)),)
+    """
+    parts, fault = library.Parts(), library.Fault()
+    try:
+        shown = library.view(record, len(record), ctypes.byref(parts), ctypes.byref(fault))
+    except ctypes.ArgumentError:
+        raise library.no_octets(record) from None
+    if not shown:
+        raise library.error_of(RecordError, fault)
+    return Record(
+        facility=parts.facility, severity=parts.severity, micros=parts.time if parts.has_time else None,
+        hostname=_word(record, parts.hostname), app_name=_word(record, parts.app_name),
+        proc_id=_word(record, parts.proc_id), msg_id=_word(record, parts.msg_id),
+        elements=_elements(record) if parts.elements else (),
+        message=_cut(record, parts.message), bom=bool(parts.has_bom))
+
+
+def _cut(record: bytes, span: library.Span) -> bytes:
+    octets: bytes = record[span.offset:span.offset + span.len]
+    return octets
+
+
+def _word(record: bytes, span: library.Span) -> Optional[str]:
+    return _cut(record, span).decode("ascii") if span.len else None
+
+
+def _meaning(raw: bytes) -> str:
+    if b"\\" in raw:
+        raw = library.text(RecordError, library.value, len(raw), raw, len(raw))
+    return raw.decode("utf-8")
+
+
+def _shown(record: bytes) -> Iterator[Tuple[int, ...]]:
+    """Each part of the structured data, its offset and its length, in the order of the octets."""
+    room, width = 24, library.PART_SPAN.size
+    while True:
+        out, fault = bytearray(room * width), library.Fault()
+        count = library.spans(record, len(record), library.room_of(out), room, ctypes.byref(fault))
+        if count < 0:
+            raise library.error_of(RecordError, fault)
+        if count <= room:
+            return library.PART_SPAN.iter_unpack(memoryview(out)[library.FIELDS * width:(count - 1) * width])
+        room = count
+
+
+def _elements(record: bytes) -> Tuple[Element, ...]:
+    elements: List[Tuple[str, List[Tuple[str, str]]]] = []
+    params: List[Tuple[str, str]] = []
+    name = ""
+    for part, offset, size in _shown(record):
+        octets = record[offset:offset + size]
+        if part == library.PARAM_NAME:
+            name = octets.decode("ascii")
+        elif part == library.ELEMENT_ID:
+            params = []
+            elements.append((octets.decode("ascii"), params))
+        else:
+            params.append((name, _meaning(octets)))
+    return tuple(Element(name, tuple(params)) for name, params in elements)
+
+
+def legacy(packet: bytes, year: int, offset_minutes: int = 0) -> bytes:
+    """The canonical form of the record that a packet is read as.
+
+    A packet that begins as RFC 5424 requires is read by that standard, any other by RFC 3164, with times of this year,
+    from 1 to 9998, this many minutes ahead of UTC. Raises RecordError for the former, PacketError for the latter.
+
+    >>> legacy(b"<13>Oct 11 22:14:15 h a[1]: x", 2003, 120)
+    b'<13>1 2003-10-11T20:14:15.000000Z h a 1 - - x'
+    """
+    limits = -2 ** 31, 2 ** 31 - 1
+    year, offset_minutes = (min(max(number, limits[0]), limits[1]) for number in (year, offset_minutes))
+    try:
+        return library.text(PacketError, library.legacy, 2 * len(packet) + 64, year, offset_minutes, packet,
+                            len(packet))
+    except PacketError as refused:
+        if refused.kind in (Kind.NOT_UTF8, Kind.BAD_CLOCK):
+            raise
+        raise RecordError(refused.kind, refused.field, refused.offset) from None
