@@ -38,6 +38,11 @@ static uint8_t *space(uint8_t *at, size_t room)
     if (!fault)                    \
     fault = &unread
 
+uint32_t syslogbox_library_version(void)
+{
+    return SYSLOGBOX_LIBRARY_VERSION;
+}
+
 int syslogbox_check(const uint8_t *record, size_t len, struct syslogbox_fault *fault)
 {
     UNREAD(fault);

@@ -1,8 +1,9 @@
 /*
  * libsyslogbox: syslog records (RFC 5424), frames of streams (RFC 6587), legacy packets (RFC 3164) and archives.
  *
- * Behind each call stands a function that is proved to meet its contract. The calls keep no state and touch no file:
- * octets and lengths go in, what comes out goes into the caller's memory. They may be called from any thread.
+ * Behind each call that takes octets stands a function that is proved to meet its contract. The calls keep no state and
+ * touch no file: octets and lengths go in, what comes out goes into the caller's memory. They may be called from any
+ * thread.
  *
  * For every call:
  * - `len` octets can be read at its pointer, and `room` octets written at `out`. They do not overlap, nor with the
@@ -25,6 +26,18 @@
 #ifdef __cplusplus
 extern "C" {
 #endif
+
+/*
+ * The version of this header: 10,000 times its first number, 100 times the second, and the third. The name
+ * SYSLOGBOX_VERSION is a field of records, below.
+ */
+#define SYSLOGBOX_LIBRARY_VERSION 400
+
+/*
+ * The version of the library that is called, in the same form. A shared library may be newer than the header that the
+ * program was built with.
+ */
+uint32_t syslogbox_library_version(void);
 
 /* The most octets of a record in a frame that the program reads. The calls here read longer ones as well. */
 #define SYSLOGBOX_FRAME_MAX 262144

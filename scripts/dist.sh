@@ -207,6 +207,7 @@ END
 }
 
 sh scripts/library.sh > /dev/null
+sh scripts/abi.sh || [ $? -eq 2 ] || die "The library for C has another interface than it had."
 tarball
 if command -v dpkg-deb > /dev/null; then
     debian

@@ -2,9 +2,11 @@
 rows and random octets, with rooms that are an octet too small, and with null pointers."""
 import ast
 import contextlib
+import ctypes
 import io
 import json
 import logging
+import re
 import shutil
 import sys
 import time
@@ -90,6 +92,25 @@ def in_c(program, results, folder, frames, answers):
     if built:
         without_memory(program, results, calls)
         hardest(results, folder, calls)
+
+
+def interface(results):
+    """The shared library has the calls of the header alone, each with the version that brought it, as they were described."""
+    declared = set(re.findall(r"^[a-z]\w* (syslogbox_\w+)\(", (ROOT / "include/syslogbox.h").read_text(), re.M))
+    exported = run("nm", ["-D", "--defined-only", ROOT / "build/libsyslogbox.so.0"])[1].decode().split()[2::3]
+    calls = dict(name.split("@@") for name in exported if not name.startswith("SYSLOGBOX_"))
+    results.check("the shared library has the header's calls alone", set(calls) == declared and len(calls) == 12, str(exported))
+    version = run("sh", ["scripts/version.sh"], cwd=ROOT)[1].decode().strip()
+    numbers = [int(number) for number in version.split(".")]
+    right = [name for name, of in calls.items() if [int(number) for number in of.removeprefix("SYSLOGBOX_").split(".")] > numbers[:2]]
+    results.check("no call is newer than the library", not right, str(calls))
+    told = ctypes.CDLL(str(ROOT / "build/libsyslogbox.so.0")).syslogbox_library_version()
+    results.check("the version of the library", told == 10_000 * numbers[0] + 100 * numbers[1] + numbers[2], str(told))
+    if not shutil.which("abidiff"):
+        results.skip("the interface of the library", "there is no abidiff")
+        return
+    status, output, notes = run("sh", ["scripts/abi.sh"], cwd=ROOT)
+    results.check("the interface of the library is the one described", status == 0, (output + notes).decode(errors="replace"))
 
 
 def header(results, folder):
@@ -425,9 +446,7 @@ def bindings(program, results):
     if status:
         return
     frames, answers = known(program)
-    exported = run("nm", ["-D", "--defined-only", ROOT / "build/libsyslogbox.so.0"])[1].split()[2::3]
-    calls = sorted(f"syslogbox_{name}".encode() for name in "canonical check element frame legacy param pass spans union value view".split())
-    results.check("the shared library has the header's calls alone", sorted(exported) == calls, str(exported))
+    interface(results)
     header(results, program.folder)
     in_c(program, results, program.folder, frames, answers)
     in_python(program, results, program.folder, frames, answers)
