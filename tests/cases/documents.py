@@ -145,15 +145,35 @@ def is_of_the_sources(word):
     return bool("_" in word or re.search("[a-z][A-Z]", word)) and not word.startswith("syslogbox_")
 
 
+def clauses_of(crate, call):
+    """The names of the clauses of a crate's public calls of this name; None where there is none."""
+    found = None
+    for path in sorted((ROOT / "crates" / crate / "src").rglob("*.rt")):
+        for contract in re.findall(rf"^ *(?:pub |extern \"C\" )*fn {call}\b(.*?)^ *\{{", path.read_text(), re.MULTILINE | re.DOTALL):
+            found = (found or set()) | set(re.findall(r"ensures (\w+)", contract))
+    return found
+
+
+def claims(results):
+    """Each row of PROOFS.md names a call of a crate at least, and each call has the clauses that are named of it."""
+    rows = [line for line in (ROOT / "docs/PROOFS.md").read_text().splitlines() if line.startswith("| ") and "Ruled out by" not in line]
+    for row in rows:
+        seen = re.findall(r"`(\w+)::(\w+)`(?: \(([\w, ]+)\))?", row)
+        wrong = [call for crate, call, clauses in seen if not set(clauses.split(", ") if clauses else []) <= (clauses_of(crate, call) or set())]
+        lost = [call for crate, call, _ in seen if clauses_of(crate, call) is None]
+        results.check(f"PROOFS.md: what rules out that {row[2:50]}..", seen and not wrong and not lost, f"{wrong} {lost}")
+    results.check("PROOFS.md has rows", len(rows) > 20, str(len(rows)))
+
+
 def promised(results):
-    """Each call, clause, definition and mutant by which PROOFS.md and README.md promise something is there."""
+    """Each call, clause, definition and mutant by which a page on proofs promises something is there."""
     seen = {}
-    for name in ("docs/PROOFS.md", "README.md"):
+    for name in ("docs/PROOFS.md", "docs/CONTRACTS.md", "README.md"):
         for span in spans(ROOT / name):
             seen.update({word: name for word in re.findall(r"[A-Za-z]\w*", span) if is_of_the_sources(word)})
     for word, name in seen.items():
         results.check(f"{name}: {word} is there", word in names_of_the_sources())
-    results.check("PROOFS.md names calls and clauses", len(seen) > 500, str(len(seen)))
+    results.check("the pages on proofs name calls and clauses", len(seen) > 500, str(len(seen)))
 
 
 def laid_out(results, page):
@@ -274,6 +294,7 @@ def documents(program, results):
     links(results)
     paths(results)
     named(results)
+    claims(results)
     promised(results)
     manual(results)
     widths(results)
