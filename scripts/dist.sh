@@ -74,7 +74,7 @@ tarball() {
     sh scripts/install.sh "$dist/static" "$tree" /usr/local
     # shellcheck disable=SC2016  # pkg-config itself puts a folder there
     library "$tree" '${pcfiledir}/../..' lib
-    files "$tree" README.md CHANGELOG.md docs/*.md docs/pictures/*.svg contrib/*.conf examples/*
+    files "$tree" README.md CHANGELOG.md SECURITY.md docs/*.md docs/pictures/*.svg contrib/*.conf examples/*
     recipes "$tree"
     bindings "$tree"
     if command -v python3 > /dev/null; then
@@ -150,7 +150,7 @@ pack() {
 # are made those to where the others are then.
 documents() {
     mkdir -p "$1/pictures" "$1/examples"
-    for page in README.md docs/*.md; do
+    for page in README.md SECURITY.md docs/*.md; do
         sed 's#](docs/#](#g; s#](\(\.\./\)*cluster/#](examples/cluster/#g; s#](CHANGELOG\.md)#](changelog.gz)#' "$page" > "$1/${page##*/}"
     done
     install -m 644 docs/pictures/*.svg "$1/pictures"

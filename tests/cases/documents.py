@@ -146,23 +146,32 @@ def is_of_the_sources(word):
 
 
 def clauses_of(crate, call):
-    """The names of the clauses of a crate's public calls of this name; None where there is none."""
-    found = None
+    """The names of the clauses of a crate's public calls of this name, and an empty one if there is such a call."""
+    found = set()
     for path in sorted((ROOT / "crates" / crate / "src").rglob("*.rt")):
         for contract in re.findall(rf"^ *(?:pub |extern \"C\" )*fn {call}\b(.*?)^ *\{{", path.read_text(), re.MULTILINE | re.DOTALL):
-            found = (found or set()) | set(re.findall(r"ensures (\w+)", contract))
+            found |= {"", *re.findall(r"ensures (\w+)", contract)}
     return found
 
 
+def backed(row):
+    """What a row names as what backs it: calls of crates with their clauses, and parts of tests/run.py."""
+    calls = re.findall(r"`(\w+)::(\w+)`(?: \(([\w, ]+)\))?", row)
+    parts = [part for listed in re.findall(r"parts? (`\w+`(?: and `\w+`)*)", row) for part in re.findall(r"\w+", listed.replace(" and ", " "))]
+    return calls, parts
+
+
 def claims(results):
-    """Each row of PROOFS.md names a call of a crate at least, and each call has the clauses that are named of it."""
-    rows = [line for line in (ROOT / "docs/PROOFS.md").read_text().splitlines() if line.startswith("| ") and "Ruled out by" not in line]
-    for row in rows:
-        seen = re.findall(r"`(\w+)::(\w+)`(?: \(([\w, ]+)\))?", row)
-        wrong = [call for crate, call, clauses in seen if not set(clauses.split(", ") if clauses else []) <= (clauses_of(crate, call) or set())]
-        lost = [call for crate, call, _ in seen if clauses_of(crate, call) is None]
-        results.check(f"PROOFS.md: what rules out that {row[2:50]}..", seen and not wrong and not lost, f"{wrong} {lost}")
-    results.check("PROOFS.md has rows", len(rows) > 20, str(len(rows)))
+    """Each row of PROOFS.md and THREATS.md names a clause or a part of the tests that backs it, and these are there."""
+    modules = {path.stem for path in (ROOT / "tests/cases").glob("*.py")}
+    for name, heads, least in [("PROOFS.md", "Ruled out by", 20), ("THREATS.md", "Backed by", 12)]:
+        rows = [line for line in (ROOT / "docs" / name).read_text().splitlines() if line.startswith("| ") and heads not in line]
+        for row in rows:
+            calls, parts = backed(row)
+            lost = [call for crate, call, clauses in calls if not {"", *(clauses or "").split(", ")} <= clauses_of(crate, call)]
+            lost += [part for part in parts if part not in modules]
+            results.check(f"{name}: what backs {row[2:50]}..", (calls or parts) and not lost, str(lost))
+        results.check(f"{name} has rows", len(rows) >= least, str(len(rows)))
 
 
 def promised(results):
