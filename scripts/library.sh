@@ -8,7 +8,7 @@ sh scripts/unpack.sh
 cd build/release
 # another user may have made them, as by `sudo make install`
 rm -f shim.o whole.o syslogbox-calls.o ../libsyslogbox.a ../libsyslogbox.so.0 ../syslogbox.pc
-gcc -g -O2 -fPIC -Wall -Wextra -I../../include -c ../../c/syslogbox.c -o shim.o
+gcc -g -ffile-prefix-map="$PWD"=. -O2 -fPIC -Wall -Wextra -I../../include -c ../../c/syslogbox.c -o shim.o
 # one object, of which the calls of the header alone are seen
 ld -r -o whole.o shim.o libsyslogbox.o libos_c.a liblibc_c.a
 objcopy --wildcard --keep-global-symbol='!syslogbox_proved_*' --keep-global-symbol='syslogbox_*' whole.o syslogbox-calls.o
