@@ -75,6 +75,7 @@ install: all lib
 uninstall: all lib
 	@case "$(PREFIX)" in /*) ;; *) echo "PREFIX has to begin with a slash." >&2; exit 1 ;; esac
 	sh scripts/uninstall.sh "$(DESTDIR)$(PREFIX)" "$(PREFIX)"
+	@[ -n "$(DESTDIR)" ] || [ "$$(id -u)" -ne 0 ] || PATH=$$PATH:/usr/sbin:/sbin ldconfig
 
 # Removes what was built and what checks kept.
 clean:
