@@ -97,11 +97,12 @@ def tables(program, results, folder):
 def files(program, results, folder):
     """Names without a file, folders, and devices that are full."""
     good, bad, none, folded = folder.file("good", entries(A)), folder.file("bad", b"x"), str(folder.path / "missing"), str(folder.path)
+    why = f"{none}: No such file or directory (os error 2)\n".encode()
     for name in PAIRS:
-        for words, notes in [([none, bad], b"left no file\n"), ([bad, none], b"right no file\n"), ([none, none], b"left no file\n"),
+        for words, notes in [([none, bad], b"left no file\n" + why), ([bad, none], b"right no file\n" + why), ([none, none], b"left no file\n" + why),
                              ([folded, good], b"left read fault\n"), ([good, folded], b"right read fault\n")]:
             results.same(f"{name}: {notes}", program.run([name, *words]), (2, b"", notes))
-    for words, notes in [([none], b"file 1 no file\n"), ([bad, good, none], b"file 3 no file\n"), ([good] * 511 + [none], b"file 512 no file\n"),
+    for words, notes in [([none], b"file 1 no file\n" + why), ([bad, good, none], b"file 3 no file\n" + why), ([good] * 511 + [none], b"file 512 no file\n" + why),
                          ([folded, bad], b"file 1 read fault\n"), ([good, folded, bad], b"file 2 read fault\n")]:
         results.same(f"union: {notes}", program.run(["union", *words]), (2, b"", notes))
     with open("/dev/full", "wb") as full:

@@ -416,7 +416,7 @@ def gone_reader(runs):
     seen = runs.program.run(["read", str(store)], stdout=write_end)
     equal(runs, "read, a pipe without a reader", (seen[0], seen[2]), (2, b""))
     seen = runs.program.run(["read", str(store / "none")], stdout=write_end)
-    said = seen[0] == 2 and seen[2].startswith(b"not a store: ")
+    said = seen[0] == 2 and seen[2].startswith(f"{store}/none: No such file".encode())
     runs.results.check("read of no store, a pipe without a reader", said, str(seen))
     os.close(write_end)
     with open("/dev/full", "wb") as full:
@@ -493,12 +493,12 @@ def folders(runs):
     for command in "read", "verify":
         for path in without, file:
             status, output, notes = runs.program.run([command, str(path)])
-            right = (status, output) == (2, b"") and notes.startswith(b"not a store: ")
+            right = (status, output) == (2, b"") and notes.startswith(f"{path}: ".encode()) and b"(os error" in notes
             runs.results.check(f"{command} of no store", right, str(notes))
         store = runs.store()
         store.mkdir()
         runs.results.same(f"{command} of an empty folder", runs.program.run([command, str(store)]),
-                          (2, b"", b"not a store: it has neither a journal nor a segment\n"))
+                          (2, b"", f"{store}: not a store: it has neither a journal nor a segment\n".encode()))
 
 
 # other words that are wrong

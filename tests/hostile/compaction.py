@@ -146,7 +146,7 @@ def is_locked(program, results, path, files):
     answer = program.run(["compact", str(store)])
     results.check("a lock that cannot be made", answer[0] == 2 and answer[2].startswith(b"lock.compact: Is a dir"), str(answer))
     answer = program.run(["compact", str(Path(path) / "none")])
-    results.check("no store", answer[0] == 2 and answer[2].startswith(b"not a store: "), str(answer))
+    results.check("no store", answer[0] == 2 and answer[2].startswith(f"{path}/none: No such file".encode()), str(answer))
 
 
 def has_few_descriptors(program, results, path, files):

@@ -118,7 +118,7 @@ pub enum NoStore {
     #[error("{0}")]
     System(io::Error),
     /// It has neither a journal nor a segment.
-    #[error("it has neither a journal nor a segment")]
+    #[error("not a store: it has neither a journal nor a segment")]
     NoFiles,
     /// The caller may change nothing in it.
     #[error("{0}")]
@@ -189,10 +189,5 @@ pub fn report_no_store<N: Output>(
     if is_of_memory(why) {
         return report(diagnostics, b"want of memory\n", NO_MEMORY);
     }
-    match why {
-        NoStore::Refused(fault) => report_why(alloc, dir, fault, diagnostics),
-        NoStore::System(_) | NoStore::NoFiles => {
-            report_why(alloc, "not a store", why, diagnostics)
-        }
-    }
+    report_why(alloc, dir, why, diagnostics)
 }

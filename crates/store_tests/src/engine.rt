@@ -208,7 +208,7 @@ fn a_folder_of_the_system_is_read(rt: HostRuntime) -> Result<(), Fail> {
     let mut diagnostics = ToWrite::new(Vec::new(alloc));
     let status = report_no_store(alloc, path.as_str(), &missing, &mut diagnostics);
     assert_eq!(rt; status, 2);
-    assert!(rt; diagnostics.into_inner().starts_with(b"not a store: "));
+    assert!(rt; diagnostics.into_inner().starts_with(path.as_bytes()));
     fs::create_dir(&rt, path.as_str())?;
     assert!(rt;
         matches!(

@@ -4,37 +4,38 @@ ghost use Rattle.std.specs.Prelude.{None};
 
 use commands::Files;
 use octet_devices::FromRead;
+use std::alloc::Global;
 use std::fs::File;
 use std::{io, rt};
 
-// Linux's errors where the process, or the whole system, has too many open files.
-const ENFILE: i32 = 23;
-
-const EMFILE: i32 = 24;
+/// A file that was not opened, and why.
+#[derive(Drop)]
+pub struct UnopenedFile {
+    pub name: String,
+    pub error: io::Error,
+}
 
 /// The files of the system. No contract knows their octets.
 #[derive(Drop)]
 pub struct DiskFiles<'a, R> {
     rt: &'a R,
-    too_many: bool,
-}
-
-fn is_too_many(error: &io::Error) -> bool {
-    matches!(error.raw_os_error(), Some(ENFILE | EMFILE))
+    alloc: Global,
+    unopened: Option<UnopenedFile>,
 }
 
 impl<'a, R: rt::Files> DiskFiles<'a, R> {
     /// The files that this runtime opens.
-    pub fn new(rt: &'a R) -> DiskFiles<'a, R> {
+    pub fn new(rt: &'a R, alloc: Global) -> DiskFiles<'a, R> {
         DiskFiles {
             rt,
-            too_many: false,
+            alloc,
+            unopened: None,
         }
     }
 
-    /// Whether a file was not opened because too many others are open.
-    pub fn are_too_many(&self) -> bool {
-        self.too_many
+    /// The first file that was not opened; None too where memory ran out for its name.
+    pub fn unopened(&self) -> Option<&UnopenedFile> {
+        self.unopened.as_ref()
     }
 }
 
@@ -47,7 +48,10 @@ impl<'a, R: rt::Files> Files for DiskFiles<'a, R> {
         match File::open(self.rt, name) {
             Ok(file) => Some(FromRead::new(file)),
             Err(error) => {
-                self.too_many = self.too_many || is_too_many(&error);
+                if self.unopened.is_none() {
+                    let name = String::from_str(self.alloc, name).ok();
+                    self.unopened = name.map(|name| UnopenedFile { name, error });
+                }
                 None
             }
         }

@@ -20,13 +20,14 @@ mod time;
 use command_line::{FileRequest, Request, read_words};
 use commands::{report_words_fault, run_request};
 use descriptors::{can_be_written, occupy_closed_descriptors};
-use disk_files::DiskFiles;
+use disk_files::{DiskFiles, UnopenedFile};
 use driver::{FAULT, NO_MEMORY, report};
 use errors::QuietErrors;
 use octet_devices::{FromRead, ToWrite};
 use std::io::{Stderr, Stdout};
 use std::process::ExitCode;
 use std::{env, io};
+use telling::line;
 
 // The arguments without the program's name, or the exit status where they cannot be read.
 fn program_args(rt: &HostRuntime) -> Result<Vec<String>, u8> {
@@ -41,26 +42,27 @@ fn program_args(rt: &HostRuntime) -> Result<Vec<String>, u8> {
     }
 }
 
-// Whether a request is one of the commands on archives whose lines may have another behind them.
-fn may_tell_more(request: &Request<'_>) -> bool {
+// Whether the reason may follow the line on a file that was not opened. What `merge` and `migrate` print
+// is that line alone.
+fn may_tell_why(request: &Request<'_>) -> bool {
     match request {
-        Request::Files(FileRequest::Merge { .. }) => false,
+        Request::Files(FileRequest::Merge { .. } | FileRequest::Migrate { .. }) => false,
         Request::Files(_) => true,
         _ => false,
     }
 }
 
-// Runs a request on standard input and files, and tells where a file was not opened because too many
-// others are open. Returns the exit status.
+// Runs a request on standard input and files, and tells why a file was not opened. Returns the exit
+// status.
 fn on_files(
     rt: &HostRuntime,
     request: Request<'_>,
     output: &mut ToWrite<Stdout>,
     diagnostics: &mut ToWrite<Stderr>,
 ) -> u8 {
-    let tells_more = may_tell_more(&request);
+    let tells_why = may_tell_why(&request);
     let mut input = FromRead::new(rt.stdin());
-    let mut files = DiskFiles::new(rt);
+    let mut files = DiskFiles::new(rt, rt.alloc());
     let status = run_request(
         rt.alloc(),
         request,
@@ -69,10 +71,15 @@ fn on_files(
         diagnostics,
         &mut files,
     );
-    if tells_more && files.are_too_many() {
-        return report(diagnostics, b"too many open files\n", status);
+    match files.unopened() {
+        Some(UnopenedFile { name, error }) if tells_why => {
+            match line(rt.alloc(), name.as_str(), error) {
+                Ok(line) => report(diagnostics, line.as_bytes(), status),
+                Err(_) => status,
+            }
+        }
+        _ => status,
     }
-    status
 }
 
 fn main(rt: HostRuntime) -> ExitCode {

@@ -30,7 +30,8 @@ fn shown(alloc: Global, text: &str) -> Result<String, AllocError> {
     Ok(shown)
 }
 
-fn line(alloc: Global, what: &str, why: impl Display + Drop) -> Result<String, AllocError> {
+/// The line on what failed, and why. The name is printed so that no octet of it reaches a terminal raw.
+pub fn line(alloc: Global, what: &str, why: impl Display + Drop) -> Result<String, AllocError> {
     let what = shown(alloc, what)?;
     format!(in alloc; "{what}: {why}\n")
 }
