@@ -637,6 +637,65 @@ def counts(runs):
         runs.results.check("each frame is told once", len(others) == 6, str(others))
 
 
+class Manager:
+    """A service manager, at a path, or behind an at sign under a name that is no file's."""
+
+    def __init__(self, name):
+        self.socket = socket.socket(socket.AF_UNIX, socket.SOCK_DGRAM)
+        self.socket.bind(name.replace("@", "\0"))
+        self.socket.settimeout(NEVER)
+        self.told = []
+
+    def __enter__(self):
+        return self
+
+    def __exit__(self, *_):
+        self.socket.close()
+
+    def until_told(self, text):
+        """Takes what it is told until something begins so; whether that has come."""
+        try:
+            while not self.told or not self.told[-1].startswith(text):
+                self.told.append(self.socket.recv(4_096))
+        except TimeoutError:
+            return False
+        return True
+
+
+def managed(runs):
+    """The service manager is told when a server listens, its counts, that it is alive, if it waits for that, and when it
+    ends. By the server's clock, which goes sixty times as fast, it wants a sign of life every four seconds."""
+    fast = runs.program.failing(speed=60)
+    for name in str(runs.path / "manager"), f"@syslogbox-test-{os.getpid()}":
+        for process, alive in [({}, True), ({"WATCHDOG_PID": "1"}, False)]:
+            environment = {**fast, "NOTIFY_SOCKET": name, "WATCHDOG_USEC": "4000000", **process}
+            with Manager(name) as manager, runs.until_eof(*any_port("lf"), *SOON, environment=environment) as server:
+                seen = manager.until_told(b"READY=1") and manager.told == [b"READY=1"]
+                runs.results.check(f"{name}: ready", seen, str(manager.told))
+                server.send("lf", A + b"\n")
+                seen = manager.until_told(b"STATUS=received 1 ")
+                runs.results.check(f"{name}: the counts", seen, str(manager.told[-3:]))
+                runs.ends(f"{name}: told", server, 0, *[line for line in server.lines() if line.startswith(b"received ")])
+                seen = manager.until_told(b"STOPPING=1")
+                runs.results.check(f"{name}: the end", seen, str(manager.told[-3:]))
+                signs = manager.told.count(b"WATCHDOG=1")
+                runs.results.check(f"{name}: {signs} signs of life", 10 <= signs <= 1_000 if alive else signs == 0, str(signs))
+            Path(name).unlink(missing_ok=True)
+
+
+def not_managed(runs):
+    """No service manager, or one that takes nothing, stops no server."""
+    path = str(runs.path / "deaf")
+    with Manager(path):
+        for name in path, str(runs.path / "none"), "", "@", "x" * 200:
+            environment = {**runs.program.failing(speed=60), "NOTIFY_SOCKET": name, "WATCHDOG_USEC": "4000"}
+            with runs.until_eof(*any_port("lf"), *SOON, environment=environment) as server:
+                server.send("lf", A + b"\n")
+                runs.holds(f"a manager at {name[:9]}", server, A)
+                status, lines = server.end()
+                runs.results.check(f"a manager at {name[:9]}: the end", status == 0, f"{status} {lines}")
+
+
 def stopped_by_signal(runs):
     """Under contrib/until-stopped a signal ends the input: what waits is read and committed, and the status is the server's."""
     front = [str(UNTIL_STOPPED)]
@@ -652,7 +711,7 @@ def stopped_by_signal(runs):
 
 TESTS = [listeners, families, inherited, not_inherited, streams, datagrams, at_once, cut_over, readings, wrong, endless,
          numbers, too_many, idle, few_descriptors, commits, statuses, open_ends, busy_end, signals, stopped_by_signal, inputs,
-         no_notes, counts,
+         no_notes, counts, managed, not_managed,
          *KEPT]
 
 

@@ -1,21 +1,27 @@
-//! A source that writes out what a server told before it is asked for more.
+//! A source that writes out what a server told before it is asked for more, and tells the service
+//! manager of ticks.
 
 use crate::outputs::Outputs;
 use socket_source::{ServerSource, ServerStep};
 
 /// A source, before each of whose steps the outputs are flushed.
 #[derive(Drop)]
-pub struct Flushing<'n, 'f, 'r, Q> {
+pub struct Flushing<'t, 'n, 'f, 'r, Q> {
+    pub rt: &'t HostRuntime,
     pub source: Q,
     pub outputs: Outputs<'n, 'f, 'r>,
 }
 
-impl<'n, 'f, 'r, Q: ServerSource> ServerSource for Flushing<'n, 'f, 'r, Q> {
+impl<'t, 'n, 'f, 'r, Q: ServerSource> ServerSource for Flushing<'t, 'n, 'f, 'r, Q> {
     ghost state = { λ f. Q.state f.source };
 
     fn next(&mut self, buf: &mut [u8]) -> ServerStep {
         self.outputs.flush();
-        self.source.next(buf)
+        let step = self.source.next(buf);
+        if matches!(step, ServerStep::Tick) {
+            self.outputs.notes.tell_alive(self.rt);
+        }
+        step
     }
 
     fn close(&mut self, conn: u32) {

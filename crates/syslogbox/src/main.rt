@@ -12,6 +12,7 @@ mod opening;
 mod outputs;
 mod refused;
 mod serve;
+mod service_manager;
 mod spill;
 mod stores;
 mod telling;

@@ -2,14 +2,20 @@
 
 use crate::notes::Notes;
 use crate::refused::RefusedFile;
+use crate::service_manager::ServiceManager;
 use std::cell::RefCell;
 use std::io::{self, ErrorKind, Write};
 
-/// The lines of a server. Several may put lines there.
+/// The lines of a server, and the service manager, which is told those of counts too. Several may put
+/// lines there.
 #[derive(Clone, Copy)]
 pub struct SharedNotes<'n> {
     pub notes: &'n RefCell<Notes>,
+    pub manager: &'n RefCell<ServiceManager>,
 }
+
+// what a line of counts begins with
+const COUNTS: &[u8] = b"received ";
 
 /// The file of what is refused, which its owner flushes.
 #[derive(Clone, Copy)]
@@ -27,6 +33,9 @@ impl<'n> Write for SharedNotes<'n> {
             return Err(in_use());
         };
         notes.put(buf);
+        if buf.starts_with(COUNTS) {
+            self.tell_status(buf);
+        }
         Ok(buf.len())
     }
 
@@ -39,6 +48,33 @@ impl<'n> Write for SharedNotes<'n> {
 }
 
 impl<'n> SharedNotes<'n> {
+    fn tell_status(&self, line: &[u8]) {
+        if let Ok(manager) = self.manager.try_borrow() {
+            manager.tell_status(line);
+        }
+    }
+
+    /// Tells the service manager that the server listens.
+    pub fn tell_ready(&self) {
+        if let Ok(manager) = self.manager.try_borrow() {
+            manager.tell_ready();
+        }
+    }
+
+    /// Tells the service manager that the server ends.
+    pub fn tell_stopping(&self) {
+        if let Ok(manager) = self.manager.try_borrow() {
+            manager.tell_stopping();
+        }
+    }
+
+    /// Tells the service manager that the server is alive, as often as it wants that.
+    pub fn tell_alive(&self, rt: &HostRuntime) {
+        if let Ok(mut manager) = self.manager.try_borrow_mut() {
+            manager.tell_alive(rt);
+        }
+    }
+
     /// Writes what waits at the end.
     pub fn finish(&self) {
         if let Ok(mut notes) = self.notes.try_borrow_mut() {

@@ -4,6 +4,7 @@ use crate::flushing::Flushing;
 use crate::notes::Notes;
 use crate::opening::{Fault, Keeper, open_refused, open_store, tell_note_error};
 use crate::outputs::{Outputs, SharedNotes, SharedRefused};
+use crate::service_manager::ServiceManager;
 use crate::telling::Teller;
 use crate::time::ServerTime;
 use archive_pages::PagedArchive;
@@ -182,11 +183,17 @@ fn collect(
     if tell_listeners(teller, words, &source).is_err() {
         return Err(teller.out_of_memory());
     }
-    let mut source = Flushing { source, outputs };
+    let mut source = Flushing {
+        rt: teller.rt,
+        source,
+        outputs,
+    };
     let mut time = ServerTime::new(teller.rt, outputs);
     let options = serve_options(words);
     let alloc = teller.rt.alloc();
+    teller.notes.tell_ready();
     let end = store_keeper::serve(alloc, &mut server, &mut source, &mut time, &options);
+    teller.notes.tell_stopping();
     let status = end.status(server.counts().has_refused());
     outputs.save_last();
     let (keeper, _notes, _refused) = server.into_parts();
@@ -217,7 +224,11 @@ pub fn serve(rt: &HostRuntime, words: &ServeWords<'_>) -> u8 {
         );
     };
     let notes = RefCell::new(notes);
-    let shared = SharedNotes { notes: &notes };
+    let manager = RefCell::new(ServiceManager::new(rt));
+    let shared = SharedNotes {
+        notes: &notes,
+        manager: &manager,
+    };
     let teller = Teller { rt, notes: shared };
     let ended = run(teller, words);
     shared.finish();

@@ -44,6 +44,7 @@ impl<'t, 'n, 'f, 'r> ServerTime<'t, 'n, 'f, 'r> {
 impl<'t, 'n, 'f, 'r> Pause for ServerTime<'t, 'n, 'f, 'r> {
     fn pause(&mut self) {
         self.outputs.flush();
+        self.outputs.notes.tell_alive(self.rt);
         let _ = poll(&mut [], FULL_MILLIS);
     }
 
