@@ -12,7 +12,7 @@ import sys
 import time
 from random import Random
 
-from bindings import python_package
+from bindings import python_arguments, python_package
 from bindings.building import SANITIZED, SHARED, compiled, for_go, loaded_package
 from bindings.go_module import go_module
 from bindings.lines import lines
@@ -241,6 +241,7 @@ def in_python(program, results, folder, frames, answers):
         if status == 0:
             results.check(f"Python: a union of {len(left)} and {len(right)} octets", module.union(left, right) == output)
     python_package.package(results, folder, module, frames, answers)
+    python_arguments.arguments(results, folder, module)
     python_streams(results, module, some)
     python_checks(results, module, frames, answers)
     all_checked(results, module, frames, answers)
