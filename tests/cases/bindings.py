@@ -410,7 +410,8 @@ def in_go(results, folder, frames, answers):
     if not shutil.which("go"):
         results.skip("the module in Go", "there is no go")
         return
-    environment = {**for_go(folder), "SYSLOGBOX_ANSWERS": written(folder, "records", frames, answers)}
+    version = run("sh", [ROOT / "scripts/version.sh"])[1].decode().strip()
+    environment = {**for_go(folder), "SYSLOGBOX_ANSWERS": written(folder, "records", frames, answers), "SYSLOGBOX_VERSION": version}
     for words in (["vet", "./..."], ["test", "-count=1", "./..."]):
         status, output, notes = run("go", words, environment=environment, cwd=ROOT / "go", timeout=300)
         results.check(f"Go: go {words[0]}", status == 0, (output + notes)[-400:].decode(errors="replace"))
