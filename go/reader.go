@@ -65,8 +65,8 @@ func (r *Reader) Read() (*Record, error) {
 }
 
 // ReadContext is Read, and waits no longer than the context lasts for a connection, or another source whose
-// SetReadDeadline works; its deadline is then taken away. Any other, such as os.Stdin as a rule, is waited for until its
-// next octets. A later call goes on from there.
+// SetReadDeadline works; its deadline is then taken away. Any other, such as os.Stdin as a rule, is waited for until
+// its next octets. A later call goes on from there.
 func (r *Reader) ReadContext(ctx context.Context) (*Record, error) {
 	for {
 		if err := r.passOver(ctx); err != nil {

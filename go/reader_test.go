@@ -153,8 +153,8 @@ func TestReadContext(t *testing.T) {
 	}
 }
 
-// noDeadline is a source whose SetReadDeadline fails, as that of os.Stdin does. Its Read waits until a deadline is asked
-// for, and gives an error of its own.
+// noDeadline is a source whose SetReadDeadline fails, as that of os.Stdin does. Its Read waits until a deadline is
+// asked for, and gives an error of its own.
 type noDeadline struct {
 	asked int
 	over  chan struct{}

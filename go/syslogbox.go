@@ -74,9 +74,9 @@ var kinds = map[Kind]string{
 }
 
 var fields = map[Field]string{
-	NoField: "no field", FieldPriority: "priority", FieldVersion: "version", FieldTimestamp: "timestamp", FieldHostname: "hostname",
-	FieldAppName: "app-name", FieldProcID: "procid", FieldMsgID: "msgid", FieldStructuredData: "structured-data",
-	FieldMessage: "message", Left: "left archive", Right: "right archive",
+	NoField: "no field", FieldPriority: "priority", FieldVersion: "version", FieldTimestamp: "timestamp",
+	FieldHostname: "hostname", FieldAppName: "app-name", FieldProcID: "procid", FieldMsgID: "msgid",
+	FieldStructuredData: "structured-data", FieldMessage: "message", Left: "left archive", Right: "right archive",
 }
 
 func (k Kind) String() string {
