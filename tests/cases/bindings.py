@@ -445,7 +445,7 @@ def examples(program, results, folder, frames):
 
 def wrong_arguments(results, folder, compiled):
     """Each example says how it is called, or which file it cannot read, in one line, and its status is 2."""
-    root, none = "0" * 64, folder.path / "none"
+    root, none = "0" * 64, folder.path / "no-such-file"
     environment = {"PYTHONPATH": str(ROOT / "python"), "SYSLOGBOX_LIBRARY": SHARED}
     usage = {"archive_to_dicts.py": "usage: archive_to_dicts.py ARCHIVE\n", "confirm.py": "usage: confirm.py COUNT ROOT RECORDS < PROOFS\n"}
     uncounted, cut_off = folder.file("uncounted", b"x"), folder.file("cut-off", b"9 <0>1")
