@@ -1,6 +1,9 @@
-"""Prints the records of an archive as a list of dicts: archive_to_dicts.py ARCHIVE
+"""Prints the records of an archive as a list of dicts.
 
-An archive is a stream of counted frames, each a canonical record.
+usage: archive_to_dicts.py ARCHIVE
+
+An archive is a stream of counted frames, each a canonical record. The status is 1 if ARCHIVE is none, and 2 if it cannot
+be read, or is not the only argument.
 """
 import pprint
 import sys
@@ -14,8 +17,21 @@ def records(path):
         return [syslogbox.view(frame).asdict() for frame in syslogbox.frames(archive, longest=syslogbox.ENTRY_MAX)]
 
 
-if __name__ == "__main__":
+def main(words):
+    if len(words) != 1:
+        print("usage: archive_to_dicts.py ARCHIVE", file=sys.stderr)
+        return 2
     try:
-        pprint.pprint(records(sys.argv[1]), sort_dicts=False)
+        dicts = records(words[0])
+    except OSError as failed:
+        print(f"{words[0]}: {failed.strerror}", file=sys.stderr)
+        return 2
     except syslogbox.SyslogError as refused:
-        sys.exit(f"{sys.argv[1]}: {refused}")
+        print(f"{words[0]}: {refused}", file=sys.stderr)
+        return 1
+    pprint.pprint(dicts, sort_dicts=False)
+    return 0
+
+
+if __name__ == "__main__":
+    sys.exit(main(sys.argv[1:]))

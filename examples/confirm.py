@@ -3,11 +3,13 @@
 
 usage: confirm.py COUNT ROOT RECORDS < PROOFS
 
-RECORDS has counted canonical records, in the order of the proofs. A line for each: present, absent or not shown."""
+RECORDS has counted canonical records, in the order of the proofs. A line for each: present, absent or not shown. The
+status is 0 if all are shown, 1 if one is not, and 2 if RECORDS cannot be read, or an argument is wrong."""
 import hashlib
 import re
 import sys
 
+USAGE = "usage: confirm.py COUNT ROOT RECORDS < PROOFS"
 NUMBER = rb"(0|[1-9][0-9]*)"
 
 
@@ -73,19 +75,47 @@ def shown(count, root, record, text, at):
     return "absent" if is_shown else "not shown", ended(text, at)
 
 
-def main(count, root, records):
-    text, frames, at, all_shown = sys.stdin.buffer.read(), open(records, "rb").read(), 0, True
-    while frames:
-        length, rest = frames.split(b" ", 1)
-        record, frames = rest[:int(length)], rest[int(length):]
+def counted(octets):
+    """The frames of a stream of octets."""
+    at = 0
+    while at < len(octets):
+        head = re.compile(NUMBER + b" ").match(octets, at)
+        if not head or head.end() + int(head[1]) > len(octets):
+            raise ValueError(f"there is no counted frame at octet {at}")
+        at = head.end() + int(head[1])
+        yield octets[head.end():at]
+
+
+def records_of(path):
+    with open(path, "rb") as file:
+        return list(counted(file.read()))
+
+
+def confirm(count, root, records):
+    """Prints a line for each record; gives whether the proofs show all of them."""
+    text, at, all_shown = sys.stdin.buffer.read(), 0, True
+    for record in records:
         try:
-            answer, at = shown(int(count), bytes.fromhex(root), record, text, at)
+            answer, at = shown(count, root, record, text, at)
         except (AttributeError, IndexError):  # no proof is there, nor behind
             answer, at = "not shown", len(text)
         all_shown &= answer != "not shown"
         print(answer)
-    return 0 if all_shown else 1
+    return all_shown
+
+
+def main(words):
+    if len(words) != 3 or not re.fullmatch("[0-9]+", words[0]) or not re.fullmatch("[0-9a-fA-F]{64}", words[1]):
+        print(USAGE, file=sys.stderr)
+        return 2
+    count, root, path = words
+    try:
+        records = records_of(path)
+    except (OSError, ValueError) as wrong:
+        print(f"{path}: {wrong.strerror if isinstance(wrong, OSError) else wrong}", file=sys.stderr)
+        return 2
+    return 0 if confirm(int(count), bytes.fromhex(root), records) else 1
 
 
 if __name__ == "__main__":
-    sys.exit(main(*sys.argv[1:]))
+    sys.exit(main(sys.argv[1:]))

@@ -1,8 +1,11 @@
 /*
- * Passes on the frames of a stream that are records, and drops the others: drop_refused [counted|lf] < IN > OUT
+ * Passes on the frames of a stream that are records, and drops the others.
+ *
+ * usage: drop_refused [counted|lf] < IN > OUT
  *
  * Standard error has a line for each frame that was dropped: its number from 1 on, the kind, the field and the octet.
- * The status is 0 where none was, 1 where one was or the stream ends inside a frame, 2 where a device fails.
+ * The status is 0 where none was, 1 where one was or the stream ends inside a frame, 2 where a device fails or the
+ * arguments are wrong.
  *
  *     gcc -o drop_refused drop_refused.c -lsyslogbox
  */
@@ -43,14 +46,28 @@ static size_t pass_on(int framing, size_t len, int *status, unsigned long *numbe
     return at;
 }
 
+/* The framing that the arguments name, or 0. */
+static int framing_of(int argc, char **argv)
+{
+    if (argc < 2)
+        return SYSLOGBOX_COUNTED;
+    if (argc > 2)
+        return 0;
+    return !strcmp(argv[1], "counted") ? SYSLOGBOX_COUNTED : !strcmp(argv[1], "lf") ? SYSLOGBOX_LF : 0;
+}
+
 int main(int argc, char **argv)
 {
-    int framing = argc > 1 && !strcmp(argv[1], "lf") ? SYSLOGBOX_LF : SYSLOGBOX_COUNTED;
+    int framing = framing_of(argc, argv);
     int status = 0;
     unsigned long number = 0;
     size_t len = 0;
     ssize_t count;
 
+    if (!framing) {
+        fprintf(stderr, "usage: drop_refused [counted|lf] < IN > OUT\n");
+        return 2;
+    }
     while ((count = read(0, held + len, sizeof held - len)) > 0) {
         size_t taken = pass_on(framing, len += (size_t)count, &status, &number);
         if (status == 2 || taken > len)

@@ -11,7 +11,7 @@ import (
 )
 
 // FrameError tells of a frame of a stream that is not a record. Err says why: a *Fault, by which errors.As finds the
-// field and the octet, or bufio.ErrTooLong.
+// field and the octet, or for a frame that is too long an error in which errors.Is finds bufio.ErrTooLong.
 type FrameError struct {
 	Number   int    // of the frame, from 1 on
 	Position int64  // of its first octet on the stream
@@ -24,6 +24,15 @@ func (e *FrameError) Error() string {
 }
 
 func (e *FrameError) Unwrap() error { return e.Err }
+
+// longerThan is why a frame is too long: it has more than so many octets.
+type longerThan int
+
+func (most longerThan) Error() string {
+	return fmt.Sprintf("syslogbox: the frame has more than %d octets", int(most))
+}
+
+func (most longerThan) Unwrap() error { return bufio.ErrTooLong }
 
 // Reader reads records from a stream of frames.
 type Reader struct {
@@ -55,9 +64,9 @@ func (r *Reader) Read() (*Record, error) {
 	return r.ReadContext(context.Background())
 }
 
-// ReadContext is Read, and waits no longer than the context lasts; a later call goes on from there. The wait of a source
-// with SetReadDeadline, such as a connection, ends at once, and its deadline is then taken away. That of any other ends
-// with its next octets.
+// ReadContext is Read, and waits no longer than the context lasts for a connection, or another source whose
+// SetReadDeadline works; its deadline is then taken away. Any other, such as os.Stdin as a rule, is waited for until
+// its next octets. A later call goes on from there.
 func (r *Reader) ReadContext(ctx context.Context) (*Record, error) {
 	for {
 		if err := r.passOver(ctx); err != nil {
@@ -119,7 +128,7 @@ func (r *Reader) record(start, end, taken int) (*Record, error) {
 func (r *Reader) tooLong(octets int) error {
 	r.number++
 	r.left = int64(octets)
-	return &FrameError{r.number, r.position, nil, bufio.ErrTooLong}
+	return &FrameError{r.number, r.position, nil, longerThan(r.longest)}
 }
 
 // passing says whether the stream is inside a frame that is too long.
@@ -186,7 +195,7 @@ func (r *Reader) fill(ctx context.Context) error {
 	return io.ErrNoProgress
 }
 
-// wait reads from the source as long as the context lasts.
+// wait reads from the source, as long as the context lasts if a deadline can end the reading.
 func (r *Reader) wait(ctx context.Context, room []byte) (int, error) {
 	if err := ctx.Err(); err != nil {
 		return 0, err
@@ -195,19 +204,19 @@ func (r *Reader) wait(ctx context.Context, room []byte) (int, error) {
 	if !bounded || ctx.Done() == nil {
 		return r.source.Read(room)
 	}
-	read, watched := make(chan struct{}), make(chan struct{})
+	read, ended := make(chan struct{}), make(chan bool, 1)
 	go func() {
-		defer close(watched)
 		select {
 		case <-ctx.Done():
-			_ = source.SetReadDeadline(time.Unix(1, 0))
+			ended <- source.SetReadDeadline(time.Unix(1, 0)) == nil
 		case <-read:
+			ended <- false
 		}
 	}()
 	n, err := r.source.Read(room)
 	close(read)
-	<-watched
-	if ctx.Err() == nil {
+	if !<-ended {
+		// no deadline was set, and what the source says is its own
 		return n, err
 	}
 	_ = source.SetReadDeadline(time.Time{})

@@ -9,6 +9,7 @@ import (
 	"net"
 	"os"
 	"strings"
+	"syscall"
 	"testing"
 	"testing/iotest"
 	"time"
@@ -34,7 +35,7 @@ func read(r *Reader) (told []string) {
 
 func TestReader(t *testing.T) {
 	long, end := strings.Repeat("x", FrameMax+1), "syslogbox: the stream ends inside a frame: unexpected EOF"
-	fault, tooLong := "syslogbox: version: syntax at octet 4", "bufio.Scanner: token too long"
+	fault, tooLong := "syslogbox: version: syntax at octet 4", "syslogbox: the frame has more than 262144 octets"
 	for _, row := range []struct {
 		framing Framing
 		stream  string
@@ -68,7 +69,7 @@ func TestReader(t *testing.T) {
 func TestLongest(t *testing.T) {
 	r := NewReader(iotest.OneByteReader(strings.NewReader("24 "+string(hello)+nil16)), Counted)
 	r.Longest(16)
-	if told := strings.Join(read(r), "|"); told != "1 at 0: bufio.Scanner: token too long|record |EOF" {
+	if told := strings.Join(read(r), "|"); told != "1 at 0: syslogbox: the frame has more than 16 octets|record |EOF" {
 		t.Fatal(told)
 	}
 }
@@ -149,6 +150,78 @@ func TestReadContext(t *testing.T) {
 		if _, err := r.ReadContext(ctx); err != context.Canceled {
 			t.Fatal(err)
 		}
+	}
+}
+
+// noDeadline is a source whose SetReadDeadline fails, as that of os.Stdin does. Its Read waits until a deadline is
+// asked for, and gives an error of its own.
+type noDeadline struct {
+	asked int
+	over  chan struct{}
+}
+
+func (s *noDeadline) SetReadDeadline(time.Time) error {
+	if s.asked++; s.asked == 1 {
+		close(s.over)
+	}
+	return os.ErrNoDeadline
+}
+
+func (s *noDeadline) Read([]byte) (int, error) {
+	<-s.over
+	return 0, os.ErrDeadlineExceeded
+}
+
+// What a source without a deadline says is its own, and it is asked for one once.
+func TestNoDeadline(t *testing.T) {
+	ctx, cancel := context.WithTimeout(context.Background(), 10*time.Millisecond)
+	defer cancel()
+	source := &noDeadline{over: make(chan struct{})}
+	if _, err := NewReader(source, Counted).ReadContext(ctx); err != os.ErrDeadlineExceeded || source.asked != 1 {
+		t.Fatalf("%v, asked %d times", err, source.asked)
+	}
+}
+
+// A pipe that blocks, as standard input often does, is waited for until its next octets, and none of them is lost.
+func TestBlockingPipe(t *testing.T) {
+	inner, sender, err := os.Pipe()
+	if err != nil {
+		t.Fatal(err)
+	}
+	defer inner.Close()
+	defer sender.Close()
+	other, err := syscall.Dup(int(inner.Fd())) // Fd makes the pipe block
+	if err != nil {
+		t.Fatal(err)
+	}
+	source := os.NewFile(uintptr(other), "pipe")
+	defer source.Close()
+	if err := source.SetReadDeadline(time.Time{}); !errors.Is(err, os.ErrNoDeadline) {
+		t.Fatal(err)
+	}
+	r := NewReader(source, Counted)
+	ctx, cancel := context.WithCancel(context.Background())
+	time.AfterFunc(10*time.Millisecond, func() {
+		cancel()
+		sender.Write([]byte(nil16 + "16 <0>1 "))
+	})
+	if record, err := r.ReadContext(ctx); err != nil || record.Severity != 0 {
+		t.Fatal(record, err)
+	}
+	if _, err := r.ReadContext(ctx); err != context.Canceled {
+		t.Fatal(err)
+	}
+	sender.Write([]byte("- - - - - -"))
+	if record, err := r.Read(); err != nil || record.Severity != 0 {
+		t.Fatal(record, err)
+	}
+}
+
+// A frame that is too long has an error of its own, in which errors.Is finds that of package bufio.
+func TestTooLong(t *testing.T) {
+	_, err := NewReader(strings.NewReader("300000 "), Counted).Read()
+	if !errors.Is(err, bufio.ErrTooLong) || err.Error() != "frame 1: syslogbox: the frame has more than 262144 octets" {
+		t.Fatal(err)
 	}
 }
 

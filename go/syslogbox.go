@@ -74,9 +74,9 @@ var kinds = map[Kind]string{
 }
 
 var fields = map[Field]string{
-	FieldPriority: "priority", FieldVersion: "version", FieldTimestamp: "timestamp", FieldHostname: "hostname",
-	FieldAppName: "app-name", FieldProcID: "procid", FieldMsgID: "msgid", FieldStructuredData: "structured-data",
-	FieldMessage: "message", Left: "left archive", Right: "right archive",
+	NoField: "no field", FieldPriority: "priority", FieldVersion: "version", FieldTimestamp: "timestamp",
+	FieldHostname: "hostname", FieldAppName: "app-name", FieldProcID: "procid", FieldMsgID: "msgid",
+	FieldStructuredData: "structured-data", FieldMessage: "message", Left: "left archive", Right: "right archive",
 }
 
 func (k Kind) String() string {
@@ -93,7 +93,8 @@ func (f Field) String() string {
 	return fmt.Sprintf("field %d", uint32(f))
 }
 
-// Fault says why octets are refused: what is wrong, where, and at which octet from 0 on.
+// Fault says why octets are refused: what is wrong, where, and at which octet from 0 on. The header of the library says
+// what Offset is for the kinds that are at no octet, from NoRoom on.
 type Fault struct {
 	Kind   Kind
 	Field  Field
@@ -101,7 +102,20 @@ type Fault struct {
 }
 
 func (f *Fault) Error() string {
-	if f.Field == NoField {
+	switch {
+	case f.Kind == NoRoom:
+		return fmt.Sprintf("syslogbox: %d octets of room are needed", f.Offset)
+	case f.Kind == NoMemory:
+		return "syslogbox: out of memory"
+	case f.Kind == BadClock:
+		return "syslogbox: the year or the offset from UTC is out of range"
+	case f.Kind == NoElement:
+		return fmt.Sprintf("syslogbox: there are %d elements", f.Offset)
+	case f.Kind == NoParam:
+		return fmt.Sprintf("syslogbox: there are %d parameters", f.Offset)
+	case f.Kind == TooLong:
+		return fmt.Sprintf("syslogbox: the record has more than %d octets", f.Offset)
+	case f.Field == NoField:
 		return fmt.Sprintf("syslogbox: %v at octet %d", f.Kind, f.Offset)
 	}
 	return fmt.Sprintf("syslogbox: %v: %v at octet %d", f.Field, f.Kind, f.Offset)
@@ -115,6 +129,17 @@ const (
 	Counted Framing = C.SYSLOGBOX_COUNTED
 	LF      Framing = C.SYSLOGBOX_LF
 )
+
+// String gives the name that the program's option --framing has, "counted" or "lf".
+func (f Framing) String() string {
+	switch f {
+	case Counted:
+		return "counted"
+	case LF:
+		return "lf"
+	}
+	return fmt.Sprintf("framing %d", int32(f))
+}
 
 func octets(b []byte) *C.uint8_t {
 	if len(b) == 0 {
@@ -139,6 +164,12 @@ func text(room int, call writing) ([]byte, error) {
 		return nil, faultOf(&fault)
 	}
 	return out[:n], nil
+}
+
+// LibraryVersion returns the version of the library that is loaded, as three numbers.
+func LibraryVersion() (major, minor, patch int) {
+	number := int(C.syslogbox_library_version())
+	return number / 10_000, number / 100 % 100, number % 100
 }
 
 // Check returns nil if the octets are a record of RFC 5424, and a *Fault otherwise.

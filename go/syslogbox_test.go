@@ -119,6 +119,44 @@ func TestSplit(t *testing.T) {
 	}
 }
 
+// The texts of what a user prints.
+func TestTexts(t *testing.T) {
+	_, clock := Legacy(0, 0, nil)
+	_, long := View(bytes.Repeat([]byte("x"), EntryMax+1))
+	_, archive := Union([]byte("x"), nil)
+	_, _, framing := Next(3, nil)
+	for _, row := range []struct {
+		seen  any
+		right string
+	}{
+		{clock, "syslogbox: the year or the offset from UTC is out of range"},
+		{long, "syslogbox: the record has more than 524295 octets"},
+		{archive, "syslogbox: left archive: bad frame at octet 0"},
+		{framing, "syslogbox: there is no framing 3"},
+		{Check(nil), "syslogbox: priority: syntax at octet 0"},
+		{&Fault{Kind: NoMemory}, "syslogbox: out of memory"},
+		{&Fault{Kind: NoRoom, Offset: 7}, "syslogbox: 7 octets of room are needed"},
+		{&Fault{Kind: NoElement, Offset: 7}, "syslogbox: there are 7 elements"},
+		{&Fault{Kind: NoParam, Offset: 7}, "syslogbox: there are 7 parameters"},
+		{&Fault{Kind: InstantRange, Offset: 6}, "syslogbox: instant out of range at octet 6"},
+		{Counted, "counted"}, {LF, "lf"}, {Framing(0), "framing 0"}, {Framing(-1), "framing -1"},
+		{NoField, "no field"}, {FieldMsgID, "msgid"}, {Field(12), "field 12"}, {Kind(99), "kind 99"},
+	} {
+		if seen := fmt.Sprint(row.seen); seen != row.right {
+			t.Errorf("%q for %q", seen, row.right)
+		}
+	}
+}
+
+// The version of the library is that of these sources, where the test is told which one that is.
+func TestLibraryVersion(t *testing.T) {
+	major, minor, patch := LibraryVersion()
+	seen := fmt.Sprintf("%d.%d.%d", major, minor, patch)
+	if right := os.Getenv("SYSLOGBOX_VERSION"); right != "" && seen != right || 100*major+minor < 4 {
+		t.Fatalf("%s for %s", seen, right)
+	}
+}
+
 func ExampleCheck() {
 	fmt.Println(Check(hello))
 	fmt.Println(Check([]byte("<0>1")))

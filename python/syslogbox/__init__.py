@@ -15,6 +15,7 @@ system's.
 """
 from ._archives import union
 from ._faults import ArchiveError, Field, Kind, PacketError, RecordError, StreamError, SyslogError
+from ._library import library_version
 from ._logging import Formatter, Handler, Writable
 from ._records import Element, Record, canonical, check, is_record, legacy, view
 from ._streams import (ENTRY_MAX, FRAME_MAX, Framing, Readable, Refusal, Source, check_all, check_stream, framed,
@@ -23,5 +24,5 @@ from ._streams import (ENTRY_MAX, FRAME_MAX, Framing, Readable, Refusal, Source,
 __all__ = ["ENTRY_MAX", "FRAME_MAX", "ArchiveError", "Element", "Field", "Formatter", "Framing", "Handler", "Kind",
            "PacketError", "Readable", "Record", "RecordError", "Refusal", "Source", "StreamError", "SyslogError",
            "Writable", "canonical", "check", "check_all", "check_stream", "framed", "frames", "is_record", "legacy",
-           "records", "union", "view"]
+           "library_version", "records", "union", "view"]
 __version__ = "0.4.0"

@@ -9,4 +9,5 @@ def union(left: bytes, right: bytes) -> bytes:
     >>> union(b"16 <0>1 - - - - - -", b"16 <1>1 - - - - - -16 <2>1 - - - - - -")
     b'16 <0>1 - - - - - -16 <1>1 - - - - - -16 <2>1 - - - - - -'
     """
-    return library.text(ArchiveError, library.union, len(left) + len(right), left, len(left), right, len(right))
+    of_left, of_right = library.size(left), library.size(right)
+    return library.text(ArchiveError, library.union, of_left + of_right, left, of_left, right, of_right)

@@ -2,10 +2,11 @@
 from __future__ import annotations
 
 import ctypes
+import operator
 import os
 import struct
 from pathlib import Path
-from typing import Any, Callable, Type
+from typing import Any, Callable, SupportsIndex, Tuple, Type
 
 from ._faults import Kind, SyslogError
 
@@ -44,16 +45,23 @@ def _path() -> str:
     return os.environ.get("SYSLOGBOX_LIBRARY") or (str(beside) if beside.exists() else NAME)
 
 
+def _unusable(why: Exception) -> ImportError:
+    """What is raised if the library is not there, or lacks a call, as another one does."""
+    return ImportError(f"{why}. Install libsyslogbox0, or run `make lib` and set SYSLOGBOX_LIBRARY to build/{NAME}")
+
+
 try:
     # most calls are short, and keep the interpreter's lock, which costs less; those of many records give it back
     _keeping, _releasing = ctypes.PyDLL(_path()), ctypes.CDLL(_path())
 except OSError as _missing:
-    raise ImportError(
-        f"{_missing}; the variable SYSLOGBOX_LIBRARY names the library that `make lib` builds") from None
+    raise _unusable(_missing) from None
 
 
 def _call(name: str, result: Any, *arguments: Any, library: ctypes.CDLL = _keeping) -> Callable[..., int]:
-    function = library[f"syslogbox_{name}"]  # each time another object, with types of its own
+    try:
+        function = library[f"syslogbox_{name}"]  # each time another object, with types of its own
+    except AttributeError as missing:
+        raise _unusable(missing) from None
     function.restype, function.argtypes = result, arguments
     return function
 
@@ -70,11 +78,42 @@ frame = _call("frame", ctypes.c_int64, ctypes.c_int, POINTER, SIZE, POINTER, POI
 pass_over = _call("pass", ctypes.c_int64, ctypes.c_int, POINTER, SIZE, POINTER, library=_releasing)
 union = _call("union", ctypes.c_int64, OCTETS, SIZE, OCTETS, SIZE, POINTER, SIZE, POINTER, library=_releasing)
 legacy = _call("legacy", ctypes.c_int64, ctypes.c_int, ctypes.c_int, OCTETS, SIZE, POINTER, SIZE, POINTER)
+_version = _call("library_version", ctypes.c_uint32)
+
+
+def library_version() -> Tuple[int, int, int]:
+    """The version of the library that is loaded, as three numbers; `__version__` is that of the package.
+
+    >>> library_version() >= (0, 4, 0)
+    True
+    """
+    number = _version()
+    return number // 10_000, number // 100 % 100, number % 100
 
 
 def no_octets(value: object) -> TypeError:
     """What a call raises for an argument that is not octets."""
     return TypeError(f"octets have to be bytes, not {type(value).__name__}")
+
+
+def text_file() -> TypeError:
+    """What a call raises for a file that is open as text."""
+    return TypeError("open the file in binary mode, not as text")
+
+
+def size(octets: bytes) -> int:
+    """How many octets there are. Raises TypeError for what is not bytes."""
+    if not isinstance(octets, bytes):
+        raise no_octets(octets)
+    return len(octets)
+
+
+def whole(name: str, value: SupportsIndex) -> int:
+    """The number that the argument of this name is. Raises TypeError for what is not an int."""
+    try:
+        return operator.index(value)
+    except TypeError:
+        raise TypeError(f"{name} has to be an int, not {type(value).__name__}") from None
 
 
 def error_of(error: Type[SyslogError], fault: Fault) -> Exception:
@@ -97,10 +136,7 @@ def room_of(out: bytearray) -> Any:
 def text(error: Type[SyslogError], call: Callable[..., int], room: int, *arguments: object) -> bytes:
     """What a call writes, into so much room."""
     out, fault = bytearray(max(room, 1)), Fault()
-    try:
-        written = call(*arguments, room_of(out), room, ctypes.byref(fault))
-    except ctypes.ArgumentError:
-        raise no_octets(next(x for x in arguments if not isinstance(x, (bytes, int)))) from None
+    written = call(*arguments, room_of(out), room, ctypes.byref(fault))
     if written < 0:
         raise error_of(error, fault)
     return bytes(memoryview(out)[:written])

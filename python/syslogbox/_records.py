@@ -109,10 +109,10 @@ class Record:
 
 def is_record(record: bytes) -> bool:
     """Whether the octets are a record of RFC 5424."""
-    size = len(record)
     try:
+        size = len(record)
         return (_check_short if size < SHORT else _check)(record, size, None) == 1
-    except ctypes.ArgumentError:
+    except (TypeError, ctypes.ArgumentError):
         raise library.no_octets(record) from None
 
 
@@ -122,10 +122,10 @@ def check(record: bytes) -> None:
     Raises RecordError, with the field and the octet, if they are not. `check_all` and `check_stream` check many records
     faster.
     """
-    size = len(record)
     try:
+        size = len(record)
         answer = (_check_short if size < SHORT else _check)(record, size, None)
-    except ctypes.ArgumentError:
+    except (TypeError, ctypes.ArgumentError):
         raise library.no_octets(record) from None
     if not answer:
         raise refusal(record)
@@ -144,7 +144,8 @@ def canonical(record: bytes) -> bytes:
     >>> canonical(b"<0>1 2024-02-29T01:00:00+01:00 - - - - - ")
     b'<0>1 2024-02-29T00:00:00.000000Z - - - - -'
     """
-    return library.text(RecordError, library.canonical, 2 * len(record) + 7, record, len(record))
+    size = library.size(record)
+    return library.text(RecordError, library.canonical, 2 * size + 7, record, size)
 
 
 def view(record: bytes) -> Record:
@@ -156,11 +157,7 @@ def view(record: bytes) -> Record:
     (Element(id='a@1', params=(('k', 'v'),)),)
     """
     parts, fault = library.Parts(), library.Fault()
-    try:
-        shown = library.view(record, len(record), ctypes.byref(parts), ctypes.byref(fault))
-    except ctypes.ArgumentError:
-        raise library.no_octets(record) from None
-    if not shown:
+    if not library.view(record, library.size(record), ctypes.byref(parts), ctypes.byref(fault)):
         raise library.error_of(RecordError, fault)
     return Record(
         facility=parts.facility, severity=parts.severity, micros=parts.time if parts.has_time else None,
@@ -223,11 +220,11 @@ def legacy(packet: bytes, year: int, offset_minutes: int = 0) -> bytes:
     >>> legacy(b"<13>Oct 11 22:14:15 h a[1]: x", 2003, 120)
     b'<13>1 2003-10-11T20:14:15.000000Z h a 1 - - x'
     """
-    limits = -2 ** 31, 2 ** 31 - 1
-    year, offset_minutes = (min(max(number, limits[0]), limits[1]) for number in (year, offset_minutes))
+    size, limits = library.size(packet), (-2 ** 31, 2 ** 31 - 1)
+    numbers = library.whole("year", year), library.whole("offset_minutes", offset_minutes)
+    clock = [min(max(number, limits[0]), limits[1]) for number in numbers]
     try:
-        return library.text(PacketError, library.legacy, 2 * len(packet) + 64, year, offset_minutes, packet,
-                            len(packet))
+        return library.text(PacketError, library.legacy, 2 * size + 64, *clock, packet, size)
     except PacketError as refused:
         if refused.kind in (Kind.NOT_UTF8, Kind.BAD_CLOCK):
             raise

@@ -38,11 +38,15 @@ Source = Union[bytes, Readable, socket.socket]
 
 
 def framed(record: bytes, framing: Framing = Framing.COUNTED) -> bytes:
-    """The record as a frame. Raises ValueError for one that the framing cannot carry: no octets, or a line feed."""
-    if framing == Framing.COUNTED:
+    """The record as a frame.
+
+    Raises ValueError for one that the framing cannot carry, no octets or a line feed, and for a framing that is none.
+    """
+    size = library.size(record)
+    if Framing(framing) == Framing.COUNTED:
         if not record:
             raise ValueError("a counted frame has an octet at least")
-        return b"%d %b" % (len(record), record)
+        return b"%d %b" % (size, record)
     if b"\n" in record:
         raise ValueError("a line has no line feed")
     return record + b"\n"
@@ -54,6 +58,8 @@ def _reader(source: Source) -> Callable[[int], Optional[bytes]]:
         return io.BytesIO(source).read
     if isinstance(source, socket.socket):
         return source.recv
+    if isinstance(source, io.TextIOBase):
+        raise library.text_file()
     read: Optional[Callable[[int], Optional[bytes]]] = getattr(source, "read1", getattr(source, "read", None))
     if read is None:
         raise library.no_octets(source)
@@ -69,6 +75,8 @@ class _Stream:
 
     def more(self) -> bool:
         piece = self.read(self.piece)
+        if isinstance(piece, str):
+            raise library.text_file()
         self.held += piece or b""
         return bool(piece)
 
@@ -104,7 +112,7 @@ def _bounds(held: bytes, framing: int) -> Iterator[Tuple[int, int, int, int]]:
 
 def _cut(source: Source, framing: Framing, longest: int, piece: int) -> Iterator[Tuple[int, Optional[bytes]]]:
     """Of each frame its position, and its octets unless they are more than `longest`."""
-    stream, framing = _Stream(source, piece), Framing(framing)
+    stream = _Stream(source, piece)
     while True:
         for taken, at, start, end in _bounds(stream.held, framing):
             if taken > 0:
@@ -135,6 +143,7 @@ def _datagrams(source: socket.socket, longest: int) -> Iterator[Tuple[int, Optio
 
 
 def _frames(source: Source, framing: Framing, longest: int, piece: int) -> Iterator[Tuple[int, Optional[bytes]]]:
+    framing = Framing(framing)
     if isinstance(source, socket.socket) and source.type == socket.SOCK_DGRAM:
         return _datagrams(source, longest)
     return _cut(source, framing, longest, piece)
@@ -225,18 +234,19 @@ def check_stream(stream: bytes, framing: Framing = Framing.COUNTED) -> Iterator[
     there is no count where a frame should begin, or if the stream ends inside a frame.
     """
     count, start, end = ctypes.c_size_t(), ctypes.c_size_t(), ctypes.c_size_t()
-    framing, address = Framing(framing), library.address(stream)
+    framing, size = Framing(framing), library.size(stream)
+    address = library.address(stream)
     at, number, taken = 0, 0, 1
     while taken > 0:
-        at += library.pass_over(framing, address + at, len(stream) - at, ctypes.byref(count))
+        at += library.pass_over(framing, address + at, size - at, ctypes.byref(count))
         number += count.value + 1
-        taken = library.frame(framing, address + at, len(stream) - at, ctypes.byref(start), ctypes.byref(end))
+        taken = library.frame(framing, address + at, size - at, ctypes.byref(start), ctypes.byref(end))
         if taken > 0:
             yield number, refusal(stream[at + start.value:at + end.value])
             at += taken
     if taken < 0:
         raise StreamError(Kind.BAD_COUNT, 0, at + start.value)
-    if at < len(stream):
+    if at < size:
         raise StreamError(Kind.UNTERMINATED, 0, at)
 
 
@@ -260,12 +270,15 @@ def check_all(records: Iterable[bytes]) -> Iterator[Tuple[int, RecordError]]:
 
 def _refused(batch: List[bytes]) -> Iterator[Tuple[int, RecordError]]:
     """For each that is not a record, its index, and why."""
-    framing, stream, count = Framing.LF, b"\n".join([*batch, b""]), ctypes.c_size_t()
+    try:
+        framing, stream, count = Framing.LF, b"\n".join([*batch, b""]), ctypes.c_size_t()
+    except TypeError:
+        raise library.no_octets(next(record for record in batch if not isinstance(record, bytes))) from None
     passed = library.pass_over(framing, stream, len(stream), ctypes.byref(count))
     if passed == len(stream) and count.value == len(batch):
         return
     if stream.count(b"\n") != len(batch):
         # one has a line feed; and no octets, which cannot be counted, have the fault of those that begin wrong
-        framing, stream = Framing.COUNTED, b"".join(framed(record or b"?") for record in batch)
+        framing, stream = Framing.COUNTED, b"".join(framed(bytes(record) or b"?") for record in batch)
     for number, error in check_stream(stream, framing):
         yield number - 1, error

@@ -48,7 +48,8 @@ every: List[Optional[str]] = [*names(process.stdout), *names(b""), *names(socket
 with open("stream", "rb") as stream:
     every += names(stream)
     print([index + error.offset for index, error in syslogbox.check_all(syslogbox.frames(stream))])
-handler = syslogbox.Handler(socket.socket().makefile("wb"), None, formatter=syslogbox.Formatter("app"))
+handler = syslogbox.Handler(socket.socket().makefile("wb"), None, formatter=syslogbox.Formatter("app", facility="local0"))
+version: int = syslogbox.library_version()[0]
 text: str = syslogbox.view(b"").json()
 """
 NOT_TYPED = "import syslogbox\nsyslogbox.check('text')\n"
@@ -61,10 +62,9 @@ def modules(package):
 
 
 def examples(results, package):
-    """Each example of a docstring shows what is printed, where the public names are there."""
-    public = {name: getattr(package, name) for name in package.__all__}
+    """Each example of a docstring shows what is printed, with the names of its module alone."""
     for module in modules(package):
-        told = doctest.testmod(module, extraglobs=public)
+        told = doctest.testmod(module)
         results.check(f"Python: the examples of {module.__name__}", told.failed == 0, str(told))
 
 

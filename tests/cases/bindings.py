@@ -12,7 +12,7 @@ import sys
 import time
 from random import Random
 
-from bindings import python_package
+from bindings import python_arguments, python_package
 from bindings.building import SANITIZED, SHARED, compiled, for_go, loaded_package
 from bindings.go_module import go_module
 from bindings.lines import lines
@@ -241,6 +241,7 @@ def in_python(program, results, folder, frames, answers):
         if status == 0:
             results.check(f"Python: a union of {len(left)} and {len(right)} octets", module.union(left, right) == output)
     python_package.package(results, folder, module, frames, answers)
+    python_arguments.arguments(results, folder, module)
     python_streams(results, module, some)
     python_checks(results, module, frames, answers)
     all_checked(results, module, frames, answers)
@@ -409,7 +410,8 @@ def in_go(results, folder, frames, answers):
     if not shutil.which("go"):
         results.skip("the module in Go", "there is no go")
         return
-    environment = {**for_go(folder), "SYSLOGBOX_ANSWERS": written(folder, "records", frames, answers)}
+    version = run("sh", [ROOT / "scripts/version.sh"])[1].decode().strip()
+    environment = {**for_go(folder), "SYSLOGBOX_ANSWERS": written(folder, "records", frames, answers), "SYSLOGBOX_VERSION": version}
     for words in (["vet", "./..."], ["test", "-count=1", "./..."]):
         status, output, notes = run("go", words, environment=environment, cwd=ROOT / "go", timeout=300)
         results.check(f"Go: go {words[0]}", status == 0, (output + notes)[-400:].decode(errors="replace"))
@@ -438,6 +440,29 @@ def examples(program, results, folder, frames):
     results.check("the example in Python reads an archive", status == 0 and len(dicts) > 100 and same, notes[-300:])
     status, _, notes = run(sys.executable, [script[0], folder.file("archive", b"x")], environment=environment)
     results.check("the example in Python tells a fault", status == 1 and b"octet 0" in notes, notes)
+    wrong_arguments(results, folder, path)
+
+
+def wrong_arguments(results, folder, compiled):
+    """Each example says how it is called, or which file it cannot read, in one line, and its status is 2."""
+    root, none = "0" * 64, folder.path / "no-such-file"
+    environment = {"PYTHONPATH": str(ROOT / "python"), "SYSLOGBOX_LIBRARY": SHARED}
+    usage = {"archive_to_dicts.py": "usage: archive_to_dicts.py ARCHIVE\n", "confirm.py": "usage: confirm.py COUNT ROOT RECORDS < PROOFS\n"}
+    uncounted, cut_off = folder.file("uncounted", b"x"), folder.file("cut-off", b"9 <0>1")
+    rows = [("archive_to_dicts.py", words, None) for words in ([], ["a", "b"])]
+    rows += [("archive_to_dicts.py", [path], path) for path in (none, folder.path)]
+    rows += [("confirm.py", words, None) for words in ([], ["1", root], ["x", root, none], ["-1", root, none], ["1", "x", none],
+                                                       ["1", root[1:], none], ["1", root, none, "more"])]
+    rows += [("confirm.py", ["1", root, path], path) for path in (none, folder.path, uncounted, cut_off)]
+    for name, words, path in rows:
+        status, output, notes = run(sys.executable, [ROOT / "examples" / name, *words], environment=environment)
+        said = notes.decode()
+        right = said == usage[name] if path is None else said.startswith(f"{path}: ") and said.count("\n") == 1
+        results.check(f"{name} with {[str(word)[-20:] for word in words]}", (status, output) == (2, b"") and right, said[-300:])
+    for words in (["lines"], ["LF"], [""], ["lf", "counted"]):
+        seen = run(compiled, words, b"16 <0>1 - - - - - -")
+        results.same(f"the example in C with {words}", seen, (2, b"", b"usage: drop_refused [counted|lf] < IN > OUT\n"))
+    results.same("the example in C without arguments", run(compiled, [], b"16 <0>1 - - - - - -"), (0, b"16 <0>1 - - - - - -", b""))
 
 
 def bindings(program, results):
