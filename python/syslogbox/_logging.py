@@ -10,7 +10,7 @@ from typing import Dict, List, Mapping, Optional, Protocol, Tuple, Union
 
 from . import _library as library
 from ._records import FACILITIES, canonical
-from ._streams import Framing, framed
+from ._streams import FRAME_MAX, Framing, framed
 
 _SEVERITIES = ((logging.CRITICAL, 2), (logging.ERROR, 3), (logging.WARNING, 4), (logging.INFO, 6))
 _UNPRINTABLE = re.compile(r"[^!-~]")
@@ -102,7 +102,8 @@ class Handler(logging.Handler):
     `file` has `write`, like a file or `socket.makefile("wb")`, and is flushed after each record if it has `flush`.
     A `framing` of None writes bare octets, one `write` a record, as the `makefile("wb", buffering=0)` of a datagram
     socket needs them. In lines, which cannot carry them, line feeds become spaces, in messages and in values: use
-    counted frames to keep line feeds. Raises TypeError for a file that has no `write` or is open as text.
+    counted frames to keep line feeds. A record of more than `FRAME_MAX` octets is not written, and goes to `handleError`.
+    Raises TypeError for a file that has no `write` or is open as text.
 
     >>> import io, logging, syslogbox
     >>> file = io.BytesIO()
@@ -133,6 +134,8 @@ class Handler(logging.Handler):
         """Writes the record, and flushes the file. An exception goes to `handleError`, as in handlers of `logging`."""
         try:
             octets = self.octets(record)
+            if len(octets) > FRAME_MAX:
+                raise ValueError(f"a record of {len(octets)} octets: a frame has at most {FRAME_MAX}")
             if self.framing == Framing.LF:
                 # a line has no line feed: those of a message of many lines become spaces
                 octets = octets.replace(b"\n", b" ")

@@ -3,6 +3,7 @@ from __future__ import annotations
 
 import ctypes
 import enum
+import errno
 import io
 import itertools
 import socket
@@ -30,7 +31,7 @@ class Readable(Protocol):
     """What has `read`, like a file, a pipe or `socket.makefile("rb")`; if it has `read1`, that is called instead."""
 
     def read(self, size: int, /) -> Optional[bytes]:
-        """At most so many octets; none at the end."""
+        """At most so many octets; none at the end. None, of a source that does not wait, raises BlockingIOError."""
 
 
 #: Where frames come from: octets, a file, or a socket.
@@ -75,9 +76,11 @@ class _Stream:
 
     def more(self) -> bool:
         piece = self.read(self.piece)
+        if piece is None:
+            raise BlockingIOError(errno.EAGAIN, "the source does not wait, and has nothing yet")
         if isinstance(piece, str):
             raise library.text_file()
-        self.held += piece or b""
+        self.held += piece
         return bool(piece)
 
     def drop(self, count: int) -> None:

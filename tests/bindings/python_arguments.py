@@ -121,6 +121,41 @@ def line_feeds(results, package):
         results.check(f"Python: {name} says what becomes of line feeds", said, text[-300:])
 
 
+def too_long(results, package):
+    """What is logged and has no room in a frame goes to handleError, and nothing is written of it."""
+    class Told(package.Handler):
+        def handleError(self, record):
+            told.append(sys.exc_info()[1])
+
+    for framing in (package.Framing.COUNTED, package.Framing.LF, None):
+        told, sink = [], io.BytesIO()
+        logger = logging.Logger("long")
+        logger.addHandler(Told(sink, framing, formatter=package.Formatter("app")))
+        logger.error("x" * package.FRAME_MAX)
+        seen = sink.getvalue(), [type(one) for one in told]
+        results.check(f"Python: a record that is too long, {framing}", seen == (b"", [ValueError]), str(seen[1]))
+
+
+class Slow:
+    """A source that does not wait: between two parts it has nothing."""
+
+    def __init__(self, *parts):
+        self.parts = list(parts)
+
+    def read(self, size):
+        return self.parts.pop(0) if self.parts else b""
+
+
+def not_waiting(results, package):
+    """A source that has nothing yet is told, and is no end."""
+    for octets in b"", b"16 <0>1 - -":
+        source = package.records(Slow(b"16 <0>1 - - - - - -", octets or None, None, b"16 <0>1 - - - - - -"))
+        first = next(source)
+        seen = raised(lambda: list(source))
+        right = first.priority == 0 and isinstance(seen, tuple) and seen[0] is BlockingIOError
+        results.check(f"Python: a source that does not wait, behind {octets}", right, str(seen))
+
+
 def described(results, package):
     """Each public class and function, and each public function of a class, has a docstring of its own."""
     for name in package.__all__:
@@ -149,5 +184,7 @@ def arguments(results, folder, package):
     octets(results, package)
     numbers(results, package)
     line_feeds(results, package)
+    too_long(results, package)
+    not_waiting(results, package)
     described(results, package)
     loaded(results, package)

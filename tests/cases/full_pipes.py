@@ -218,6 +218,30 @@ def stopped_terminal(runs):
         os.close(theirs)
 
 
+def silent_terminal(runs):
+    """A terminal that nobody reads takes some lines and then none, and stops nothing."""
+    try:
+        ours, theirs = pty.openpty()
+    except OSError as error:
+        runs.results.skip("a terminal that nobody reads", error)
+        return
+    try:
+        port = free_port(socket.SOCK_STREAM)
+        with runs.until_eof("--lf", f"{HERE}:{port}", *SOON, stderr=theirs) as server:
+            until(lambda: is_open(port))
+            taken = all(empty_lines(server, ("lf", (HERE, port)), 200, f"127.0.0.{n}") for n in range(2, 22))
+            runs.results.check("4,000 lines beside a terminal that nobody reads are taken", taken)
+            server.send(("lf", (HERE, port)), A + b"\n")
+            runs.holds("beside a terminal that nobody reads", server, A)
+            begun = time.monotonic()
+            server.process.stdin.close()
+            status, late = server.status(), time.monotonic() - begun
+            runs.results.check("a server with such a terminal ends", status == 1 and late < 5, f"{status} after {late:.2f} s")
+    finally:
+        os.close(ours)
+        os.close(theirs)
+
+
 # ---------------------------------------------------------------- the file of refused frames
 
 def with_refused(runs):
@@ -267,6 +291,42 @@ def others(runs):
         runs.results.check(f"the {name} stays", os.path.lexists(path) and not stat.S_ISREG(os.lstat(path).st_mode))
     runs.results.check("the target is as it was", target.read_bytes() == b"octets")
     runs.results.check("a dangling link makes no file", not (runs.path / "none").exists())
+
+
+def damaged(runs):
+    """More behind the last whole entry than an entry has is damage: the file keeps it under its other name."""
+    store = with_refused(runs)
+    path = store / "refused"
+    entries = framed("counted", b"x" * 1_000) * 500
+    for at in 0, len(path.read_bytes()):
+        octets = bytearray(path.read_bytes() + entries)
+        octets[at] ^= 0x80
+        path.write_bytes(octets)
+        with runs.until_eof(*any_port("lf"), *SOON, store=store) as server:
+            server.send("lf", b"later\n")
+            status, lines = server.end()
+        told = b"refused: damaged at octet %d: kept as refused.1, and begun anew" % at
+        runs.results.check(f"a file that is damaged at {at}: what is told", status == 1 and told in lines, f"{status} {lines}")
+        runs.results.check(f"a file that is damaged at {at}: it stays", (store / "refused.1").read_bytes() == octets)
+        kept = [frame for _, frame in refused_file(store)]
+        runs.results.check(f"a file that is damaged at {at}: a new one", kept == [b"later"], str(kept))
+
+
+def never_turned(runs):
+    """Where a folder has the other name, the file has at most 128 MiB; what comes then is counted and told."""
+    store = with_refused(runs)
+    path = store / "refused"
+    path.write_bytes(framed("counted", b"0" * (127 << 20)))
+    (store / "refused.1").mkdir()
+    with runs.until_eof(*any_port("lf"), *SOON, store=store) as server:
+        for _ in range(30):
+            server.send("lf", b"x" * 60_000 + b"\n")
+        told = server.until_told(re.compile(rb"refused: [1-9]\d* entries not kept: .*"))
+        runs.results.check("a file that cannot be turned: what is told", told, str(server.lines()[-2:]))
+        server.send("lf", A + b"\n")
+        runs.holds("beside a file that cannot be turned", server, A)
+        size = path.stat().st_size
+        runs.results.check("a file that cannot be turned: its size", size <= (128 << 20) + (1 << 17), str(size))
 
 
 def turned(runs):
@@ -327,7 +387,7 @@ def shown(runs):
     runs.refused("a name with an escape", any_port("lf"), f"{store}".replace("\x1b", "\\x1b") + ": ", store=store)
 
 
-TESTS = [unread, read_late, no_reader, in_order, to_a_file, stopped_terminal, torn, others, turned, full_disk, shown]
+TESTS = [unread, read_late, no_reader, in_order, to_a_file, stopped_terminal, silent_terminal, torn, others, damaged, turned, never_turned, full_disk, shown]
 
 
 def full_pipes(program, results):

@@ -2,6 +2,7 @@
 import errno
 import os
 import re
+import shutil
 import socket
 import subprocess
 import threading
@@ -435,6 +436,55 @@ def fling(server, octets):
 
 # ---------------------------------------------------------------- servers that do not begin
 
+MOVED = b"it was moved or removed"
+
+
+def ends_moved(runs, name, server, what):
+    """A server whose store was moved ends by itself at the next commit, and tells so."""
+    try:
+        server.send("lf", numbered(99) + b"\n")
+    except OSError:
+        pass  # it has ended already
+    status, lines = server.status(), server.lines()
+    right = status == 2 and lines[-2:] == [b"store fault", f"{what}: ".encode() + MOVED]
+    runs.results.check(f"{name}: the end", right, f"{status} {lines}")
+
+
+def moved(runs):
+    """Where another folder has the store's name, its server leaves that one alone."""
+    store = runs.store()
+    words = [*any_port("lf"), *SOON, "--checkpoint", 1]
+    with runs.server(*words, store=store) as one:
+        one.send("lf", A + b"\n")
+        runs.holds("before a store is moved", one, A)
+        moved = store.rename(store.with_name("moved"))
+        with runs.server(*words, store=store) as other:
+            sent = [numbered(n) for n in range(5)]
+            other.send("lf", *(record + b"\n" for record in sent))
+            runs.holds("in its place", other, *sent)
+            before = files_of(store)
+            ends_moved(runs, "a store that was moved", one, store)
+            runs.results.check("the store in its place stays", files_of(store) == before)
+            other.send("lf", Y + b"\n")
+            runs.holds("in its place, afterwards", other, *sent, Y)
+    runs.results.same("the store that was moved", runs.program.run(["read", str(moved)])[:2], (0, entries(A)))
+
+
+def removed(runs):
+    """A server whose store, lock or journal was removed, or has got another in its place, ends and tells it."""
+    for name, what in ("the folder", ""), ("the lock", ""), ("the journal", "/journal.1"):
+        with runs.server(*any_port("lf"), *SOON) as server:
+            server.send("lf", A + b"\n")
+            runs.holds(f"before {name} is removed", server, A)
+            if what:
+                (server.store / what[1:]).unlink()
+            elif name == "the lock":
+                (server.store / "lock").unlink()
+            else:
+                shutil.rmtree(server.store)
+            ends_moved(runs, f"{name} is removed", server, f"{server.store}{what}")
+
+
 def second(runs):
     """A second server on a store does not begin, and the first goes on."""
     with runs.until_eof(*any_port("lf"), *SOON) as server:
@@ -516,5 +566,5 @@ def options(runs):
         runs.results.check(f"serve {words}", right, f"{status} {output} {notes}")
 
 
-KEPT = [kills, checkpoints, damaged_journal, older_journal, full, full_mount, failing, written_anew, damaged_and_noted,
+KEPT = [moved, removed, kills, checkpoints, damaged_journal, older_journal, full, full_mount, failing, written_anew, damaged_and_noted,
         full_anew, gone_reader, second, ports, paths, folders, options]

@@ -17,6 +17,10 @@ use std::{fs, io};
 
 /// A disk over a folder of the system's files.
 ///
+/// Where it holds a lock, nothing is made, renamed, removed or synced once the lock's file has lost its
+/// name, as where the folder was moved or removed: the disk has failed then. So has it where a file that
+/// is to be synced has lost its own.
+///
 /// A file that was written stays open until it has been synced, and mostly longer: a commit opens
 /// none. Nobody else may write, rename or remove the files that are written through it; others may
 /// come and go, and one that was open when it was removed can still be read. Folders and links in
@@ -172,6 +176,17 @@ impl<R: Files + AllocGlobal + Clone + Drop> FolderDisk<R> {
         Err(fault)
     }
 
+    // Whether the lock, if it holds one, still has its name: otherwise the disk has failed.
+    fn check_lock(&mut self) -> Result<(), DiskFault>
+        ensures cause { HasCause (IsSome self.old.last_error) (IsSome self.new.last_error) result }
+    {
+        let answer = match &self.lock {
+            Some(lock) => lock.require_name(self.files.rt()),
+            None => Ok(()),
+        };
+        self.told(Target::Folder, None, answer)
+    }
+
     // What the system's answer to a sync means. If it failed, that is noted.
     fn told_sync(
         &mut self,
@@ -207,6 +222,7 @@ impl<R: Files + AllocGlobal + Clone + Drop> Disk for FolderDisk<R> {
     }
 
     fn create(&mut self, name: &FileName) -> Result<(), DiskFault> {
+        self.check_lock()?;
         let answer = self.files.create(name);
         self.told(Target::FreeName, Some(name), answer)
     }
@@ -227,21 +243,27 @@ impl<R: Files + AllocGlobal + Clone + Drop> Disk for FolderDisk<R> {
     }
 
     fn sync(&mut self, name: &FileName) -> Result<(), DiskFault> {
+        self.check_lock()?;
+        let named = self.files.require_name(name);
+        self.told(Target::Folder, Some(name), named)?;
         let answer = self.files.sync(name);
         self.told_sync(Target::File, Some(name), answer)
     }
 
     fn rename(&mut self, from: &FileName, to: &FileName) -> Result<(), DiskFault> {
+        self.check_lock()?;
         let answer = self.files.rename(from, to);
         self.told(Target::File, Some(from), answer)
     }
 
     fn remove(&mut self, name: &FileName) -> Result<(), DiskFault> {
+        self.check_lock()?;
         let answer = self.files.remove(name);
         self.told(Target::File, Some(name), answer)
     }
 
     fn sync_names(&mut self) -> Result<(), DiskFault> {
+        self.check_lock()?;
         let answer = self.files.sync_names();
         self.told_sync(Target::Folder, None, answer)
     }

@@ -5,7 +5,7 @@ ghost use Rattle.folder_disk.specs.Locks.{lock_name};
 
 use crate::boot::{NOTE_MAX, boot_id, failed_note, sound_note, tells_of_boot};
 use crate::path::FolderPath;
-use crate::regular::{Access, open_or_create};
+use crate::regular::{Access, RegularFile, open_or_create};
 use crate::transfers::{cut_to, read_from, write_from};
 use std::alloc::Global;
 use std::fs::{File, TryLockError};
@@ -68,23 +68,22 @@ pub enum LockFault {
 /// who take it too. Its file keeps a note of a sync that failed.
 #[derive(Drop)]
 pub struct FolderLock {
-    file: File,
+    opened: RegularFile<File>,
+    path: String,
     // what the system calls its run; nothing where it does not tell
     boot: Vec<u8>,
     // the note of a run in which a sync has failed
     failed: Vec<u8>,
 }
 
-fn open_lock<R: Files + AllocGlobal>(rt: &R, folder: &str, lock: LockFile) -> io::Result<R::File> {
+fn path_of(alloc: Global, folder: &str, lock: LockFile) -> io::Result<String> {
     if folder.is_empty() {
         return Err(ErrorKind::NotFound.into()); // the name of no folder, as it is to `FolderDisk`
     }
-    let folder = FolderPath::new(rt.alloc(), folder)?;
-    let mut path = String::from_str(rt.alloc(), folder.as_str())?;
+    let folder = FolderPath::new(alloc, folder)?;
+    let mut path = String::from_str(alloc, folder.as_str())?;
     path.push_str(lock.name())?;
-    let opened = open_or_create(rt, path.as_str(), Access::Write)?;
-    opened.require_own()?;
-    Ok(opened.file)
+    Ok(path)
 }
 
 // The lock of a folder, which is not taken yet.
@@ -93,10 +92,17 @@ fn make_lock<R: Files<File = File> + AllocGlobal>(
     folder: &str,
     lock: LockFile,
 ) -> io::Result<FolderLock> {
-    let file = open_lock(rt, folder, lock)?;
+    let path = path_of(rt.alloc(), folder, lock)?;
+    let opened = open_or_create(rt, path.as_str(), Access::Write)?;
+    opened.require_own()?;
     let boot = boot_id(rt, rt.alloc())?;
     let failed = failed_note(rt.alloc(), &boot)?;
-    Ok(FolderLock { file, boot, failed })
+    Ok(FolderLock {
+        opened,
+        path,
+        boot,
+        failed,
+    })
 }
 
 // Writes a note over the one before.
@@ -117,7 +123,7 @@ impl FolderLock {
             Ok(taken) => taken,
             Err(error) => return Err(LockFault::Failed(LockError { lock, error })),
         };
-        match taken.file.try_lock() {
+        match taken.opened.file.try_lock() {
             Ok(()) => Ok(taken),
             Err(TryLockError::WouldBlock) => Err(LockFault::Held),
             Err(TryLockError::Error(error)) => Err(LockFault::Failed(LockError { lock, error })),
@@ -129,19 +135,25 @@ impl FolderLock {
     /// tell which run this is.
     pub fn tells_of_failed_sync(&mut self) -> io::Result<bool> {
         let mut note = [0u8; NOTE_MAX];
-        let count = read_from(&mut self.file, 0, &mut note)?;
+        let count = read_from(&mut self.opened.file, 0, &mut note)?;
         Ok(tells_of_boot(&note[..count], &self.boot))
     }
 
     /// Notes that a sync has failed. There is room for it once `note_sound` has been called.
     pub fn note_failed_sync(&mut self) -> io::Result<()> {
-        put_note(&mut self.file, &self.failed)
+        put_note(&mut self.opened.file, &self.failed)
     }
 
     /// Notes that no sync has failed, which makes room for the other note: it is as long. It fails where
     /// a full disk has no room for the first one.
     pub fn note_sound(&mut self, alloc: Global) -> io::Result<()> {
         let note = sound_note(alloc, &self.boot)?;
-        put_note(&mut self.file, &note)
+        put_note(&mut self.opened.file, &note)
+    }
+
+    /// Refuses a lock whose file no longer has its name, so that another process may have the folder,
+    /// or the name stands for another folder.
+    pub(crate) fn require_name<R: Files>(&self, rt: &R) -> io::Result<()> {
+        self.opened.require_name(rt, self.path.as_str())
     }
 }

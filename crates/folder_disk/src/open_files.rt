@@ -49,6 +49,10 @@ impl<R: Files + AllocGlobal + Clone + Drop> OpenFiles<R> {
         self.rt.alloc()
     }
 
+    pub(crate) fn rt(&self) -> &R {
+        &self.rt
+    }
+
     fn position(&self, name: &FileName) -> Option<usize>
         ensures { IfSome result (λ i. i < vec_len self.now.opened) }
     {
@@ -160,6 +164,15 @@ impl<R: Files + AllocGlobal + Clone + Drop> OpenFiles<R> {
         let opened = &mut self.opened[i];
         opened.is_synced = false;
         cut_to(&mut opened.file.file, len)
+    }
+
+    /// Refuses a file that is open and no longer has its name.
+    pub(crate) fn require_name(&self, name: &FileName) -> io::Result<()> {
+        let Some(i) = self.position(name) else {
+            return Ok(());
+        };
+        let path = self.path.of_file(name)?;
+        self.opened[i].file.require_name(&self.rt, path.as_str())
     }
 
     /// Brings a file to the disk. A file whose sync failed is closed, and opened anew by the next

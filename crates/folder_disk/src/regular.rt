@@ -132,6 +132,15 @@ impl<F> RegularFile<F> {
     pub fn require_own(&self) -> io::Result<()> {
         require_own_file(libc::geteuid(), self.found.uid(), self.found.nlink())
     }
+
+    /// Refuses a file that no longer has this name: it, or its folder, was moved or removed.
+    pub(crate) fn require_name<R: Files>(&self, rt: &R, path: &str) -> io::Result<()> {
+        match fs::symlink_metadata(rt, path) {
+            Ok(named) if are_same(&named, &self.found) => Ok(()),
+            Err(error) if error.kind() == ErrorKind::OutOfMemory => Err(error),
+            _ => Err(io::Error::other("it was moved or removed")),
+        }
+    }
 }
 
 /// Opens a regular file, which is made if it is missing.

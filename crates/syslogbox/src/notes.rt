@@ -4,8 +4,9 @@ use libc::net::{POLLERR, POLLHUP, POLLNVAL, POLLOUT, poll};
 use libc::types::pollfd;
 use libc::{SEEK_CUR, STDERR_FILENO, isatty, lseek};
 use std::alloc::{AllocError, Global};
-use std::cell::RefCell;
+use std::fs::{File, OpenOptions};
 use std::io::{self, ErrorKind, Stderr, Write};
+use std::os::fd::AsRawFd;
 
 // How many octets of lines wait at most.
 const ROOM: usize = 262_144;
@@ -20,8 +21,14 @@ const TERMINAL_PIECE: usize = 256;
 // How many pieces are written at once at most; all that waits is fewer.
 const PIECES_MAX: usize = 4_096;
 
-// For how many milliseconds nothing may be taken at the end before what waits is given up.
+// For how many milliseconds nothing may be taken at the end before what waits is given up, and how many are
+// between two tries where the system says that something would be.
 const LAST_MILLIS: i32 = 1_000;
+
+const TRY_MILLIS: i32 = 10;
+
+// Standard error, by a name under which it can be opened once more.
+const STDERR_PATH: &str = "/proc/self/fd/2";
 
 /// The lines of a server on their way to standard error. They wait until they are flushed, and where
 /// standard error is a pipe, a socket or a terminal, only as much is written as it takes at once. A
@@ -30,6 +37,7 @@ const LAST_MILLIS: i32 = 1_000;
 #[derive(Drop)]
 pub struct Notes {
     stderr: Stderr,
+    terminal: Option<File>,
     // the most octets of a write, where the system is asked before each
     piece_max: Option<usize>,
     waiting: Vec<u8>,
@@ -84,11 +92,26 @@ fn piece(octets: &[u8], most: usize) -> &[u8] {
     }
 }
 
+// A terminal, opened once more, so that writes to it do not wait, and those of others do as before: a
+// terminal may say that it can be written, and take less than the fewest octets.
+fn open_terminal(rt: &HostRuntime) -> Option<File> {
+    if isatty(STDERR_FILENO) != 1 {
+        return None;
+    }
+    let terminal = OpenOptions::new().write(true).open(rt, STDERR_PATH).ok()?;
+    if os::set_nonblocking(terminal.as_raw_fd(), true) < 0 {
+        return None;
+    }
+    Some(terminal)
+}
+
 impl Notes {
     /// Standard error, and room for the lines that wait.
-    pub fn new(alloc: Global, stderr: Stderr) -> Result<Notes, AllocError> {
+    pub fn new(rt: &HostRuntime) -> Result<Notes, AllocError> {
+        let alloc = rt.alloc();
         Ok(Notes {
-            stderr,
+            stderr: rt.stderr(),
+            terminal: open_terminal(rt),
             piece_max: piece_max(),
             waiting: Vec::with_capacity(alloc, ROOM)?,
             stalled: false,
@@ -163,10 +186,11 @@ impl Notes {
     // octets that were.
     fn write_piece(&mut self, sent: usize) -> io::Result<usize> {
         let rest = self.waiting.get(sent..).unwrap_or(&[]);
-        match self.piece_max {
-            None => self.stderr.write(rest),
-            Some(_) if !is_ready(0) => Ok(0),
-            Some(most) => self.stderr.write(piece(rest, most)),
+        match (self.piece_max, &mut self.terminal) {
+            (None, _) => self.stderr.write(rest),
+            (Some(_), _) if !is_ready(0) => Ok(0),
+            (Some(most), Some(terminal)) => terminal.write(piece(rest, most)),
+            (Some(most), None) => self.stderr.write(piece(rest, most)),
         }
     }
 
@@ -212,10 +236,18 @@ impl Notes {
 
     /// Writes what waits at the end. It waits for whoever reads it, unless nothing is taken for a second.
     pub fn finish(&mut self) {
+        let mut idle = 0i32;
         for _piece in 0..PIECES_MAX {
+            let waiting = self.waiting.len();
             self.flush();
-            if self.waiting.is_empty() || !is_ready(LAST_MILLIS) {
+            if self.waiting.is_empty() || idle >= LAST_MILLIS || !is_ready(LAST_MILLIS) {
                 return;
+            }
+            if self.waiting.len() < waiting {
+                idle = 0;
+            } else {
+                let _ = poll(&mut [], TRY_MILLIS);
+                idle = idle.saturating_add(TRY_MILLIS);
             }
         }
     }

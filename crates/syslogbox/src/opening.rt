@@ -1,6 +1,6 @@
 //! What a server opens in a store's folder.
 
-use crate::refused::RefusedFile;
+use crate::refused::{Behind, RefusedFile};
 use crate::telling::Teller;
 use disk::DiskFault;
 use durable_store::{OpenFault, SetAside, check_newest};
@@ -160,20 +160,27 @@ pub fn open_store(teller: Teller<'_, '_>, dir: &str) -> Result<Keeper, Fault> {
     open_keeper(teller, dir, disk)
 }
 
-/// Opens the file of what is refused, and tells where the end of it was cut off.
+/// Opens the file of what is refused, and tells what was found behind its entries.
 pub fn open_refused<'a>(teller: Teller<'a, '_>, dir: &str) -> Result<RefusedFile<'a>, Fault> {
     let file = match RefusedFile::open(teller.rt, dir) {
         Ok(file) => file,
         Err(error) => return Err(refuse_file(teller, dir, "refused", error)),
     };
-    let cut = file.cut_octets();
-    if cut > 0 {
-        match format!(in teller.rt.alloc();
+    let alloc = teller.rt.alloc();
+    let line = match file.behind() {
+        Behind::Nothing => return Ok(file),
+        Behind::Torn(cut) => format!(in alloc;
             "refused: {cut} octets behind the last whole entry cut off\n"
-        ) {
-            Ok(line) => teller.tell(line.as_str()),
-            Err(_) => return Err(teller.out_of_memory()),
+        ),
+        Behind::Damage(at) => format!(in alloc;
+            "refused: damaged at octet {at}: kept as refused.1, and begun anew\n"
+        ),
+    };
+    match line {
+        Ok(line) => {
+            teller.tell(line.as_str());
+            Ok(file)
         }
+        Err(_) => Err(teller.out_of_memory()),
     }
-    Ok(file)
 }

@@ -11,6 +11,12 @@ use std::time::{Duration, Instant};
 // The most octets of the file: at the first entry behind them it gets another name, and a new one begins.
 const REFUSED_MAX: u64 = 64 << 20;
 
+// The most octets of it where it cannot get another name.
+const UNTURNED_MAX: u64 = 128 << 20;
+
+// The most octets that a write leaves which ends halfway: those of a frame of 262,144 octets with its line.
+const TORN_MAX: u64 = 300_000;
+
 // How many octets of entries are written together at most, and read at once.
 const HELD_MAX: usize = 65_536;
 
@@ -32,7 +38,7 @@ pub struct RefusedFile<'a> {
     held: Vec<u8>,
     held_entries: u64,
     lost: Lost,
-    cut: u64,
+    behind: Behind,
 }
 
 // The paths of the file, of the one before it, and of the one to come.
@@ -70,14 +76,25 @@ fn whole_len(file: &mut File, buf: &mut [u8]) -> io::Result<u64> {
     Ok(entries.whole_len())
 }
 
-// Cuts off what follows the last whole entry of a file. Returns how many octets that were.
-fn cut_torn(file: &mut File, buf: &mut [u8]) -> io::Result<u64> {
+/// What was found behind the last whole entry of the file when it was opened.
+#[derive(Clone, Copy)]
+pub enum Behind {
+    /// Nothing.
+    Nothing,
+    /// So many octets, which were cut off: the front of an entry.
+    Torn(u64),
+    /// More than the front of an entry, from this octet on. The file was given its other name.
+    Damage(u64),
+}
+
+fn find_behind(file: &mut File, buf: &mut [u8]) -> io::Result<Behind> {
     let len = file.metadata()?.len();
     let whole = whole_len(file, buf)?;
-    if whole < len {
-        file.set_len(whole)?;
-    }
-    Ok(len.saturating_sub(whole))
+    Ok(match len.saturating_sub(whole) {
+        0 => Behind::Nothing,
+        torn if torn <= TORN_MAX => Behind::Torn(torn),
+        _ => Behind::Damage(whole),
+    })
 }
 
 impl Lost {
@@ -112,7 +129,8 @@ impl Lost {
 
 impl<'a> RefusedFile<'a> {
     /// The file in a store's folder, without what follows its last whole entry. It is made if it is
-    /// missing. It fails if it is no regular file, or if the system does not open it.
+    /// missing. It fails if it is no regular file, or if the system does not open it, or does not give
+    /// a damaged one another name.
     pub fn open(rt: &'a HostRuntime, dir: &str) -> io::Result<RefusedFile<'a>> {
         let names = Names {
             path: format!(in rt.alloc(); "{dir}/refused")?,
@@ -121,14 +139,13 @@ impl<'a> RefusedFile<'a> {
         };
         let mut file = open(rt, names.path.as_str())?;
         let mut held = vec![in rt.alloc(); 0u8; HELD_MAX]?;
-        let cut = cut_torn(&mut file, &mut held)?;
+        let behind = find_behind(&mut file, &mut held)?;
         held.clear();
-        let len = file.metadata()?.len();
-        Ok(RefusedFile {
+        let mut refused = RefusedFile {
             rt,
             names,
             file,
-            len,
+            len: 0,
             torn: None,
             held,
             held_entries: 0,
@@ -137,13 +154,29 @@ impl<'a> RefusedFile<'a> {
                 error: None,
                 told: None,
             },
-            cut,
-        })
+            behind,
+        };
+        refused.settle()?;
+        Ok(refused)
     }
 
-    /// How many octets were cut off when it was opened.
-    pub fn cut_octets(&self) -> u64 {
-        self.cut
+    /// What was found behind its last whole entry when it was opened.
+    pub fn behind(&self) -> Behind {
+        self.behind
+    }
+
+    // Leaves whole entries alone in the file that was opened.
+    fn settle(&mut self) -> io::Result<()> {
+        let len = self.file.metadata()?.len();
+        match self.behind {
+            Behind::Nothing => self.len = len,
+            Behind::Torn(torn) => {
+                self.len = len.saturating_sub(torn);
+                self.file.set_len(self.len)?;
+            }
+            Behind::Damage(_) => self.turn()?,
+        }
+        Ok(())
     }
 
     // Cuts off what a write that failed has left, and returns the length.
@@ -175,8 +208,12 @@ impl<'a> RefusedFile<'a> {
     // Writes whole entries, or none of them.
     fn try_append(&mut self, entries: &[u8]) -> io::Result<()> {
         let mut begun = self.mend()?;
-        if begun >= REFUSED_MAX && self.turn().is_ok() {
-            begun = 0;
+        if begun >= REFUSED_MAX {
+            match self.turn() {
+                Ok(()) => begun = 0,
+                Err(error) if begun >= UNTURNED_MAX => return Err(error),
+                Err(_) => {}
+            }
         }
         let written = self.file.write_all(entries);
         self.len = begun;

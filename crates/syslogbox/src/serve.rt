@@ -5,7 +5,7 @@ use crate::notes::Notes;
 use crate::opening::{Fault, Keeper, open_refused, open_store, tell_note_error};
 use crate::outputs::{Outputs, SharedNotes, SharedRefused};
 use crate::service_manager::ServiceManager;
-use crate::telling::Teller;
+use crate::telling::{Teller, shown};
 use crate::time::ServerTime;
 use archive_pages::PagedArchive;
 use driver::{NO_MEMORY, report};
@@ -122,7 +122,7 @@ fn tell_listeners(
         let kind = kind_of(one);
         let place = match source.local_addr(n) {
             Some(addr) => format!(in alloc; "{addr}")?,
-            None => place_of(alloc, one)?,
+            None => shown(alloc, place_of(alloc, one)?.as_str())?,
         };
         let line = format!(in alloc; "listening {kind} {place}\n")?;
         teller.tell(line.as_str());
@@ -216,7 +216,7 @@ fn run(teller: Teller<'_, '_>, words: &ServeWords<'_>) -> Result<u8, Fault> {
 /// Collects from sockets into a store until it is stopped, or until standard input ends if that is
 /// asked for. Returns the exit status.
 pub fn serve(rt: &HostRuntime, words: &ServeWords<'_>) -> u8 {
-    let Ok(notes) = Notes::new(rt.alloc(), rt.stderr()) else {
+    let Ok(notes) = Notes::new(rt) else {
         return report(
             &mut ToWrite::new(rt.stderr()),
             b"want of memory\n",

@@ -14,9 +14,9 @@ pub struct Teller<'r, 'n> {
     pub notes: SharedNotes<'n>,
 }
 
-// A text as it is printed: octets from 32 to 126, except quote and backslash, as themselves, and
-// every other octet as `\x` and two hexadecimal digits.
-fn shown(alloc: Global, text: &str) -> Result<String, AllocError> {
+/// A text as it is printed: octets from 32 to 126, except quote and backslash, as themselves, and
+/// every other octet as `\x` and two hexadecimal digits.
+pub fn shown(alloc: Global, text: &str) -> Result<String, AllocError> {
     let mut shown = String::new(alloc);
     for octet in text.as_bytes() {
         match *octet {
