@@ -1,10 +1,10 @@
 -- What is behind the batches of journals is set aside.
 use Rattle.std.proofs.Common.{◌≡◌, ◌≢◌, ◌⊎◌, inl, inr, ⊎_elim, ◌<◌, ◌^◌, ◌∷◌, ◌++◌, [], ℕ, List, length, map, refl, ap, sym}
-use Rattle.std.proofs.Common.{◌≤◌, length-append, subst, ◌∙◌, arith}
+use Rattle.std.proofs.Common.{◌+◌, ◌≤◌, drop, length-append, subst, take, ◌∙◌, arith}
 use Rattle.std.specs.Prelude.{Contains, None, Option, Some, codes}
 use Rattle.std.specs.List.{AllByRecursion}
 use Rattle.std.specs.List.Sorted.{IsStrictlyIncreasing}
-use Rattle.std.proofs.lemmas.List.{append_cancel_left, map-append}
+use Rattle.std.proofs.lemmas.List.{append_cancel_left, map-append, take-append-drop, take-map}
 use Rattle.std.proofs.lemmas.List.Elements.{Contains-append_left, Contains-append_right, Contains-push}
 use Rattle.disk.specs.Calls.{IsUnchanged}
 use Rattle.disk.specs.Memory.{shown_now}
@@ -12,7 +12,7 @@ use Rattle.disk.specs.States.{Entry as DiskEntry, NameMayLeave, State, kept}
 use Rattle.journal.specs.Batches.{HasBatches, batches_text}
 use Rattle.journal.specs.Journals.{IsSound, KeepsOrSettlesOthers}
 use Rattle.archive_text.specs.Entries.{Entry, Has}
-use Rattle.archive_text.proofs.Members.{all_append, all_weaker}
+use Rattle.archive_text.proofs.Members.{all_append, all_left, all_right, all_weaker}
 use Rattle.record_store.specs.Asides.{IsAside, KeepsOrSettlesFiles, ShowsOrNone, aside_causes, aside_name}
 use Rattle.record_store.specs.Causes.{IsCause, ShowsTooLong, opening_causes, reading_causes}
 use Rattle.record_store.specs.Crashes.{InSegment, Keeps}
@@ -28,7 +28,7 @@ use Rattle.record_store.proofs.Causing.{cause_weaker}
 use Rattle.record_store.proofs.Leavings.{settled_may, settled_shown}
 use Rattle.record_store.proofs.Named.{not_both, number_same_or_apart, other_number}
 use Rattle.record_store.proofs.Newly.{too_long_still}
-use Rattle.record_store.proofs.Numbers.{last_apart}
+use Rattle.record_store.proofs.Numbers.{increasing_take, last_apart}
 use Rattle.record_store.proofs.Readings.{some_batches}
 use Rattle.durable_store.specs.Asides.{ArePutAside, AreTails, CutsBeside, IsPutAside, IsTail, SetsTailsAside, ShowsAllBatches}
 use Rattle.durable_store.specs.Asides.{IsBehind, ShowsBatchesOf, TailIsAside, aside_number, tail_number}
@@ -364,6 +364,38 @@ still_tail zero one tail is same = record {
   behind = is.behind;
   more = is.more;
 }
+
+-- the next one: it is behind a journal that is shown, and none of those before
+pub next_tail : (zero : State) (tails first : List Tail) (tail : Tail) (index : ℕ)
+    → take (index + 1) tails ≡ first ++ tail ∷ [] → AreTails zero tails
+    → IsTail zero tail × IsStrictlyIncreasing (map tail_number (first ++ tail ∷ []))
+next_tail zero tails first tail index is are = (
+  (all_right (IsTail zero) first (tail ∷ [])
+      (subst (AllByRecursion (IsTail zero)) is (all_take (index + 1) tails are.each))).0,
+  subst (λ (l : List Tail). IsStrictlyIncreasing (map tail_number l)) is
+      (subst IsStrictlyIncreasing (take-map tail_number (index + 1) tails)
+      (increasing_take (index + 1) (map tail_number tails) are.ascend)),
+)
+  where
+    all_take : (n : ℕ) (l : List Tail) → AllByRecursion (IsTail zero) l → AllByRecursion (IsTail zero) (take n l)
+    all_take n l all =
+        all_left (IsTail zero) (take n l) (drop n l)
+        (subst (AllByRecursion (IsTail zero)) (sym (take-append-drop n l)) all)
+
+pub shown_there : (zero one : State) (tails : List Tail) (asides : List SetAside) (tail : Tail)
+    → PutSo zero one tails asides → IsTail zero tail
+    → IsStrictlyIncreasing (map tail_number (tails ++ tail ∷ []))
+    → journal_shown one tail.number ≡ journal_shown zero tail.number
+shown_there zero one tails asides tail so is ascend =
+    so.journals tail.number is.small
+    (last_apart (map tail_number tails) tail.number
+    (subst IsStrictlyIncreasing (map-append tail_number tails (tail ∷ [])) ascend))
+
+pub still_there : (zero one : State) (tails : List Tail) (asides : List SetAside) (tail : Tail)
+    → PutSo zero one tails asides → IsTail zero tail
+    → IsStrictlyIncreasing (map tail_number (tails ++ tail ∷ [])) → IsTail one tail
+still_there zero one tails asides tail so is ascend =
+    still_tail zero one tail is (shown_there zero one tails asides tail so is ascend)
 
 -- ---- an opening
 

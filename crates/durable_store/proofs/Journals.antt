@@ -21,9 +21,9 @@ use Rattle.record_store.specs.Shown.{AreShown, JournalsHave, journal_shown}
 use Rattle.record_store.specs.declared.fault.StoreFault.{StoreFault}
 use Rattle.record_store.proofs.Causing.{cause_weaker}
 use Rattle.record_store.proofs.Numbers.{below_last, increasing_push}
-use Rattle.durable_store.specs.Asides.{AddsJournal, AreTails, IsBehind, IsTail, tail_number}
+use Rattle.durable_store.specs.Asides.{AddsJournal, AreTails, IsBehind, IsTail, IsTailOf, tail_number}
 use Rattle.durable_store.specs.Causes.{IsOpeningCause, IsReadingCause}
-use Rattle.durable_store.specs.Recovery.{Adds, IsRecovered}
+use Rattle.durable_store.specs.Recovery.{Adds, IsRecovered, Refutes}
 use Rattle.durable_store.specs.declared.fault.OpenFault.{OpenFault}
 use Rattle.durable_store.specs.declared.fault.OpenFault.TheVariants.{Store, Damaged, Memory}
 use Rattle.durable_store.specs.declared.tail.Tail.{Tail}
@@ -45,6 +45,13 @@ ends_behind file bodies end ends = record {
   has = record { tail = ends.tail; text = ends.text; closed = ends.closed; sized = ends.sized };
   is = sym (ap (drop end) ends.text ∙ drop_at (batches_text bodies) ends.tail end (sym ends.end_is));
 }
+
+-- what a split gives
+pub behind_of : (octets read behind : List ℕ) (end : ℕ) → read ≡ octets
+    → ((bodies : List (List ℕ)) × EndsAt read bodies end) → behind ≡ drop end read → IsBehind octets behind
+behind_of octets read behind end same ends is =
+    subst (IsBehind octets) (sym is)
+    (subst (λ (o : List ℕ). IsBehind o (drop end read)) same (ends_behind read ends.0 end ends.1))
 
 -- ---- the journals of some numbers
 
@@ -73,9 +80,9 @@ none_of x (k, below, same) = omega (arith, below)
 pub read_none : (state : State) (es : List Entry) → es ≡ [] → ReadSo state [] es []
 read_none state es empty = record {
   has = λ e. (
-      λ has. absurd (subst (λ (l : List Entry). Has l e) empty has),
-      λ has. absurd (none_of has.number has.one),
-    );
+    λ has. absurd (subst (λ (l : List Entry). Has l e) empty has),
+    λ has. absurd (none_of has.number has.one),
+  );
   whole = λ n octets has. absurd (none_of n has);
   ascend = λ k below. absurd (omega (arith, below));
   of = λ n has. absurd (none_of n has);
@@ -137,46 +144,53 @@ module _ (state : State) (numbers : List ℕ) (old new : List Entry) (tails : Li
       (λ (is : number ≡ n). subst IsWholeJournal (same_file n octets is there) whole)
       (Contains-push_cases numbers number n has)
 
-  pub read_plain : AddsJournal old new number file None → ReadSo state (numbers ++ number ∷ []) new tails
-  read_plain adds = record {
-    has = more_has adds.adds;
-    whole = more_whole adds.whole;
+  read_plain : Adds old new (JournalHas file) → IsWholeJournal file
+      → ((octets : List ℕ) → IsBehind file octets → length octets ≤ 1)
+      → ReadSo state (numbers ++ number ∷ []) new tails
+  read_plain adds whole short = record {
+    has = more_has adds;
+    whole = more_whole whole;
     ascend = read.ascend;
     of = λ n has. wider n (read.of n has);
     each = read.each;
     all = λ n other octets has there behind more. ⊎_elim
         (λ first. read.all n other octets first there behind more)
         (λ (is : number ≡ n).
-        absurd (omega (arith, more, adds.behind octets
-        (subst (λ (o : List ℕ). IsBehind o octets) (sym (same_file n other is there)) behind))))
+        absurd (omega (
+          arith,
+          more,
+          short octets
+              (subst (λ (o : List ℕ). IsBehind o octets) (sym (same_file n other is there)) behind),
+        )))
         (Contains-push_cases numbers number n has);
   }
 
-  module _ (tail : Tail) (adds : AddsJournal old new number file (Some tail)) where
+  module _ (tail : Tail) (is : IsTailOf file number tail) where
     numbers_then : map tail_number (tails ++ tail ∷ []) ≡ map tail_number tails ++ number ∷ []
     numbers_then =
         map-append tail_number tails (tail ∷ [])
-        ∙ ap (λ (n : ℕ). map tail_number tails ++ n ∷ []) adds.behind.0
+        ∙ ap (λ (n : ℕ). map tail_number tails ++ n ∷ []) is.number_is
 
     is_tail : IsTail state tail
     is_tail = record {
       octets = file;
-      small = subst (λ (n : ℕ). n < 2 ^ 64) (sym adds.behind.0) small;
-      shown = ap (journal_shown state) adds.behind.0 ∙ shown;
-      behind = adds.behind.2;
-      more = adds.behind.1;
+      small = subst (λ (n : ℕ). n < 2 ^ 64) (sym is.number_is) small;
+      shown = ap (journal_shown state) is.number_is ∙ shown;
+      behind = is.behind;
+      more = is.more;
     }
 
-    pub read_torn : ReadSo state (numbers ++ number ∷ []) new (tails ++ tail ∷ [])
-    read_torn = record {
-      has = more_has adds.adds;
-      whole = more_whole adds.whole;
+    read_torn : Adds old new (JournalHas file) → IsWholeJournal file
+        → ReadSo state (numbers ++ number ∷ []) new (tails ++ tail ∷ [])
+    read_torn adds whole = record {
+      has = more_has adds;
+      whole = more_whole whole;
       ascend = subst IsStrictlyIncreasing (sym numbers_then)
           (increasing_push (map tail_number tails) number read.ascend
           (λ n has. below_last numbers number n ascend (read.of n has)));
       of = λ n has. ⊎_elim
           (λ first. wider n (read.of n first))
-          (λ (is : number ≡ n). subst (Contains (numbers ++ number ∷ [])) is (Contains-push numbers number))
+          (λ (same : number ≡ n). subst (Contains (numbers ++ number ∷ [])) same (Contains-push numbers number))
           (Contains-push_cases (map tail_number tails) number n
           (subst (λ (l : List ℕ). Contains l n) numbers_then has));
       each = all_append (IsTail state) tails (tail ∷ []) read.each (is_tail, tt);
@@ -188,6 +202,15 @@ module _ (state : State) (numbers : List ℕ) (old new : List Entry) (tails : Li
           subst (Contains (map tail_number tails ++ number ∷ [])) is (Contains-push (map tail_number tails) number))
           (Contains-push_cases numbers number n has));
     }
+
+  pub read_more : (then : List Tail) → AddsJournal old new tails then number file
+      → ReadSo state (numbers ++ number ∷ []) new then
+  read_more then adds = ⊎_elim
+      (λ plain. subst (λ (l : List Tail). ReadSo state (numbers ++ number ∷ []) new l) (sym plain.0)
+      (read_plain adds.adds adds.whole plain.1))
+      (λ torn. subst (λ (l : List Tail). ReadSo state (numbers ++ number ∷ []) new l) (sym torn.1)
+      (read_torn torn.0 torn.2 adds.adds adds.whole))
+      adds.behind
 
 -- ---- all of them
 
@@ -210,23 +233,23 @@ module _ (state : State) (last : ℕ) (numbers : List ℕ) (es : List Entry) (ta
   all_recovered = record {
     whole = λ n octets small shown. read.whole n octets (each_is n octets small shown) shown;
     has = λ e. (
-        λ has.
-            let was = (read.has e).0 has in
-            record {
-              number = was.number;
-              octets = was.octets;
-              small = omega (arith, ((are.are was.number).0 was.one).0, highest);
-              shown = was.shown;
-              has = was.has;
-            },
-        λ has. (read.has e).1 (record {
-          number = has.number;
-          octets = has.octets;
-          one = each_is has.number has.octets has.small has.shown;
-          shown = has.shown;
-          has = has.has;
-        }),
-      );
+      λ has.
+          let was = (read.has e).0 has in
+          record {
+            number = was.number;
+            octets = was.octets;
+            small = omega (arith, ((are.are was.number).0 was.one).0, highest);
+            shown = was.shown;
+            has = was.has;
+          },
+      λ has. (read.has e).1 (record {
+        number = has.number;
+        octets = has.octets;
+        one = each_is has.number has.octets has.small has.shown;
+        shown = has.shown;
+        has = has.has;
+      }),
+    );
   }
 
   pub all_tails : AreTails state tails
@@ -237,6 +260,16 @@ module _ (state : State) (last : ℕ) (numbers : List ℕ) (es : List Entry) (ta
   }
 
 -- ---- why one is not read
+
+pub reading_refuted : (tells failed : Type 0) (state : State) (number : ℕ) (read : List ℕ) (fault : OpenFault)
+    → (tells → IsSound state → (octets : List ℕ) → journal_shown state number ≡ Some octets → read ≡ octets)
+    → Refutes number (IsWholeJournal read) fault → IsReadingCause tells failed state number fault
+reading_refuted tells failed state number read (Store fault) same is = absurd is
+reading_refuted tells failed state number read (Damaged at fault) same is = (
+  is.0,
+  λ tell sound octets shown whole. is.1 (subst IsWholeJournal (sym (same tell sound octets shown)) whole),
+)
+reading_refuted tells failed state number read Memory same is = tt
 
 pub unchanged_journal : (zero one : State) (n : ℕ) → IsUnchanged zero one → journal_shown one n ≡ journal_shown zero n
 unchanged_journal zero one n same = ap shown_now (same.entries (journal_name n))

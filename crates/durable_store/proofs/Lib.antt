@@ -1,0 +1,10 @@
+pub mod Additions
+pub mod Asides
+pub mod Daily
+pub mod Failing
+pub mod Growth
+pub mod Journals
+pub mod Mixing
+pub mod Readable
+pub mod Recovered
+pub mod Runs

@@ -1,5 +1,5 @@
 -- What an opening sets aside.
-use Rattle.std.specs.Prelude.{◌≡◌, ◌≢◌, ◌⊎◌, ℕ, ◌<◌, ◌≤◌, ◌^◌, List, Contains, Option, None, Some, length, map}
+use Rattle.std.specs.Prelude.{◌≡◌, ◌≢◌, ◌⊎◌, ℕ, ◌<◌, ◌≤◌, ◌^◌, List, [], ◌∷◌, ◌++◌, Contains, None, Some, length, map}
 use Rattle.std.specs.List.{AllByRecursion}
 use Rattle.std.specs.List.Sorted.{IsStrictlyIncreasing}
 use Rattle.disk.specs.States.{State, kept}
@@ -25,17 +25,22 @@ pub record IsBehind (file octets : List ℕ) : Type 0 where
   pub has : HasBatches file bodies
   pub is : has.tail ≡ octets
 
--- behind the batches of a file is at most the octet that the next one is opened by, or these octets, which are more
-abbrev pub IsTailOf : List ℕ → ℕ → Option Tail → Type 0
-IsTailOf file number None = (octets : List ℕ) → IsBehind file octets → length octets ≤ 1
-IsTailOf file number (Some tail) =
-    (tail.number ≡ number) × (1 < length tail.octets.items) × IsBehind file tail.octets.items
+-- behind the batches of a file is at most the octet that the next one is opened by; or more, and that comes to those of
+-- others
+pub record IsTailOf (file : List ℕ) (number : ℕ) (tail : Tail) : Type 0 where
+  pub number_is : tail.number ≡ number
+  pub more : 1 < length tail.octets.items
+  pub behind : IsBehind file tail.octets.items
 
--- the entries of a whole journal are added to a set, and what is behind its batches is given
-pub record AddsJournal (old new : List Entry) (number : ℕ) (file : List ℕ) (tail : Option Tail) : Type 0 where
+abbrev pub AddsTail : List Tail → List Tail → List ℕ → ℕ → Type 0
+AddsTail old new file number = ((new ≡ old) × ((octets : List ℕ) → IsBehind file octets → length octets ≤ 1))
+    ⊎ ((tail : Tail) × (new ≡ old ++ tail ∷ []) × IsTailOf file number tail)
+
+-- the entries of a whole journal are added to a set, and what is behind its batches
+pub record AddsJournal (old new : List Entry) (tails then : List Tail) (number : ℕ) (file : List ℕ) : Type 0 where
   pub adds : Adds old new (JournalHas file)
   pub whole : IsWholeJournal file
-  pub behind : IsTailOf file number tail
+  pub behind : AddsTail tails then file number
 
 -- octets are behind the batches of a journal that is shown
 pub record IsTail (state : State) (tail : Tail) : Type 0 where

@@ -151,16 +151,17 @@ fn add_batches(
     Ok(end)
 }
 
-// Adds the entries of the journal with a number, and gives what is behind its batches.
+// Adds the entries of the journal with a number, and what is behind its batches.
 fn add_journal<D: Disk>(
     alloc: Global,
     disk: &mut D,
     set: &mut PagedArchive,
+    tails: &mut Vec<Tail>,
     number: u64,
-) -> Result<Option<Tail>, OpenFault>
-    ensures adds { IfOk result (λ tail. D.tells disk.new → IsSound (D.state disk.old) → (octets : List ℕ)
+) -> Result<(), OpenFault>
+    ensures adds { OnOk result (D.tells disk.new → IsSound (D.state disk.old) → (octets : List ℕ)
         → journal_shown (D.state disk.old) number ≡ Some octets
-        → AddsJournal (entries_in set.old) (entries_in set.new) number octets tail) }
+        → AddsJournal (entries_in set.old) (entries_in set.new) tails.old.items tails.new.items number octets) }
     ensures same { D.tells disk.new → IsUnchanged (D.state disk.old) (D.state disk.new) }
     ensures told { D.tells disk.new → D.tells disk.old }
     ensures cause { IfErr result (IsReadingCause (D.tells disk.new) (D.has_failed disk.new)
@@ -168,12 +169,15 @@ fn add_journal<D: Disk>(
 {
     let octets = read_journal(alloc, disk, number)?;
     let end = add_batches(alloc, set, &octets, number)?;
-    let (_, tail) = octets.split_at(end);
-    if tail.len() <= 1 {
-        return Ok(None);
+    let (_, behind) = octets.split_at(end);
+    if behind.len() <= 1 {
+        return Ok(());
     }
-    let octets = tail.to_vec(alloc)?;
-    Ok(Some(Tail { number, octets }))
+    let octets = behind.to_vec(alloc)?;
+    match tails.push(Tail { number, octets }) {
+        Ok(()) => Ok(()),
+        Err(_) => Err(OpenFault::Memory),
+    }
 }
 
 /// Brings the entries of all journals that a read shows into memory, the oldest first, and gives what is
@@ -195,11 +199,7 @@ pub(crate) fn recover<D: Disk>(
     let mut tails = Vec::new(alloc);
     let numbers = journals(alloc, disk, u64::MAX)?;
     for number in &numbers {
-        if let Some(tail) = add_journal(alloc, disk, &mut set, *number)? {
-            if tails.push(tail).is_err() {
-                return Err(OpenFault::Memory);
-            }
-        }
+        add_journal(alloc, disk, &mut set, &mut tails, *number)?;
     }
     Ok((set, tails))
 }

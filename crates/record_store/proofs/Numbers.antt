@@ -15,6 +15,7 @@ use Rattle.std.proofs.lemmas.List.Kept.{Contains-dedup_nat, Contains-from_dedup}
 use Rattle.std.proofs.lemmas.List.Sorted.{Contains-permutation, IsPermutation-sym}
 use Rattle.std.proofs.lemmas.Map.Keys.{IsStrictlyIncreasing-dedup, IsStrictlyIncreasing-from_sorted}
 use Rattle.std.proofs.lemmas.Map.Keys.{below_from_sorted, sorted_from_strictly_increasing}
+use Rattle.archive_text.proofs.Members.{all_left}
 use Rattle.disk.specs.Calls.{AreNames}
 use Rattle.disk.specs.Files.{File}
 use Rattle.disk.specs.States.{State}
@@ -66,10 +67,6 @@ module _ (names : List (List ℕ)) (name : List ℕ) (last : ℕ) (numbers : Lis
   )
 
 -- ---- in order
-
-all_left : {X : Type 0} (P : X → Type 0) (xs ys : List X) → AllByRecursion P (xs ++ ys) → AllByRecursion P xs
-all_left P [] ys all = tt
-all_left P (x ∷ xs) ys all = (all.0, all_left P xs ys all.1)
 
 sorted_left : (xs ys : List ℕ) → IsStrictlySortedBy nat_cmp (xs ++ ys) → IsStrictlySortedBy nat_cmp xs
 unfolding IsStrictlySortedBy
@@ -154,3 +151,9 @@ are_shown state names last found sorted numbers sound are of moves in_order is =
     shown_is_some : (now : Option File) → option_map (λ (f : File). f.shown) now ≢ None → IsSome now
     shown_is_some None shown = absurd (shown refl)
     shown_is_some (Some file) shown = refl
+
+-- the first of them are up to the last
+pub small_part : (state : State) (last : ℕ) (numbers some : List ℕ) (count : ℕ) → AreShown state last numbers
+    → some ≡ take count numbers → (n : ℕ) → Contains some n → n ≤ last
+small_part state last numbers some count are is n has =
+    ((are.are n).0 (take_part count numbers n (subst (λ (l : List ℕ). Contains l n) is has))).0

@@ -120,7 +120,7 @@ cut_shown new number name octets bodies has r opens named same = (
   opens.stands.gate,
   ap (λ (n : List ℕ). shown_now (new.entries n)) (sym named ∙ sym same) ∙ ap shown_now opens.stands.entry
       ∙ ap (λ (l : List (List ℕ)). Some (batches_text l ++ opens.stands.gate ∷ []))
-          (one_reading octets opens.bodies bodies opens.has has),
+      (one_reading octets opens.bodies bodies opens.has has),
 )
 
 -- ---- the store of the newest journal

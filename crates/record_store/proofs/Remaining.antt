@@ -79,6 +79,9 @@ none_grow a b same = record {
   others = λ period name segment apart. same period name segment;
 }
 
+pub same_grow : (a b : State) → IsUnchanged a b → SegmentsGrow 0 a b
+same_grow a b same = none_grow a b (λ period name segment. ap shown_now (same.entries name))
+
 -- ---- beside a segment that is brought, and beside journals
 
 -- every name but those of the draft and of the segment

@@ -1,6 +1,7 @@
 -- One journal after another.
 use Rattle.std.proofs.Common.{◌≡◌, ◌≢◌, ◌⊎◌, inl, inr, ⊎_elim, ℕ, ◌+◌, ◌<◌, ◌≤◌, ◌^◌, List, [], ◌∷◌, ◌++◌, refl, sym, ap}
-use Rattle.std.proofs.Common.{subst, ◌∙◌, arith, take}
+use Rattle.std.proofs.Common.{length, subst, ◌∙◌, arith, take}
+use Rattle.std.proofs.lemmas.List.{take_all}
 use Rattle.std.specs.Prelude.{Contains, Option, None, Some, false, true}
 use Rattle.std.specs.List.Sorted.{IsStrictlyIncreasing}
 use Rattle.std.proofs.lemmas.List.Elements.{Contains-append_left, Contains-push, Contains-push_cases}
@@ -17,7 +18,7 @@ use Rattle.record_store.specs.Names.{IsJournal, journal_name}
 use Rattle.record_store.specs.Segments.{SegmentsGrow}
 use Rattle.record_store.specs.Shown.{AreShown, JournalsHave, JournalsWithin, ShowsWithin, journal_shown}
 use Rattle.record_store.specs.Stores.{IsReady, Sets, Stands, begun}
-use Rattle.record_store.specs.Turns.{AreInSegments, IsGoneOf, LosesOnly, ShedsOldest, turned}
+use Rattle.record_store.specs.Turns.{AreEachShown, AreInSegments, IsGoneOf, LosesOnly, ShedsOldest, turned}
 use Rattle.record_store.specs.declared.store.RecordStore.{RecordStore}
 use Rattle.record_store.proofs.Apart.{held_journals, segments_beside, segments_less, within_then}
 use Rattle.record_store.proofs.Batches.{none_wait}
@@ -25,7 +26,7 @@ use Rattle.record_store.proofs.Covering.{with-here, with-other, with_file}
 use Rattle.record_store.proofs.Creating.{create_keeps, create_older, create_ready, create_within}
 use Rattle.record_store.proofs.Leavings.{retired_leaves, settled_shown, shown_left}
 use Rattle.record_store.proofs.Named.{not_both, other_number, same_or_apart}
-use Rattle.record_store.proofs.Numbers.{last_apart}
+use Rattle.record_store.proofs.Numbers.{increasing_take, last_apart, take_part}
 use Rattle.record_store.proofs.Remaining.{none_grow}
 use Rattle.record_store.proofs.Showing.{ready_shows}
 use Rattle.record_store.proofs.Standing.{ready_as}
@@ -116,9 +117,9 @@ module _ (old new : State) (number : ℕ) (small : number < 2 ^ 64)
           name = other;
           at = subst (λ (o : Option (List ℕ)). HeldAt other o e)
               (⊎_elim
-                  (λ (is : other ≡ name). ap after is ∙ sym (with-here after name other (after name) is))
-                  (λ (differs : other ≢ name). sym (with-other after name other (after name) differs))
-                  (same_or_apart other name)) at;
+              (λ (is : other ≡ name). ap after is ∙ sym (with-here after name other (after name) is))
+              (λ (differs : other ≢ name). sym (with-other after name other (after name) differs))
+              (same_or_apart other name)) at;
         }
 
         with_none : (after : Files) → after (journal_name number) ≡ None → (other : List ℕ) (e : Entry)
@@ -204,6 +205,11 @@ shed_whole old new some all among shed = record {
   lost = shed.lost;
   keeps = λ are. shed.keeps (λ n octets has. are n octets (among n has));
 }
+
+-- all of them
+pub whole_shed : (zero one : State) (numbers : List ℕ) (index : ℕ) → length numbers ≤ index
+    → Shed zero one (take index numbers) → Shed zero one numbers
+whole_shed zero one numbers index past shed = subst (Shed zero one) (take_all index numbers past) shed
 
 module _ (zero one two : State) (numbers : List ℕ) (number : ℕ) (small : number < 2 ^ 64) (shed : Shed zero one numbers)
     (done : IsUnchanged one two ⊎ RemovesFile one two (journal_name number)) where
@@ -316,6 +322,30 @@ pub apart_same : (old new : State) (es : List Entry) → IsUnchanged old new →
 apart_same old new es same apart e has =
     segments_less old new (λ day name segment octets may.
     subst (λ (x : DiskEntry). NameMayLeave x octets) (same.entries name) may) e (apart e has)
+
+pub made_apart : (old new : State) (number : ℕ) → number + 1 < 2 ^ 64
+    → KeepsOrSettlesOthers old new (journal_name (number + 1)) → (es : List Entry) → HeldApart old es
+    → HeldApart new es
+made_apart old new number fits others es apart e has =
+    segments_beside old new (journal_name (number + 1))
+    (record { number = number + 1; small = fits; name_is = refl }) others e (apart e has)
+
+pub lost_apart_held : (old new : State) (numbers : List ℕ) → LosesOnly old new numbers → (es : List Entry)
+    → HeldApart old es → HeldApart new es
+lost_apart_held old new numbers only es apart e has = lost_segments old new numbers only e (apart e has)
+
+-- the first of those that were shown are shown, each once, beside the next journal
+pub each_of : (zero one : State) (last count : ℕ) (numbers : List ℕ) → last + 1 < 2 ^ 64 → AreShown zero last numbers
+    → KeepsOrSettlesOthers zero one (journal_name (last + 1)) → AreEachShown one (take count numbers)
+each_of zero one last count numbers fits are others = record {
+  ascend = increasing_take count numbers are.ascend;
+  shown = λ n has none.
+      let is = (are.are n).0 (take_part count numbers n has) in
+      is.1 (sym (settled_shown (zero.entries (journal_name n)) (one.entries (journal_name n))
+      (others (journal_name n) (λ same.
+      let wrong : n ≡ last + 1 = other_number n (last + 1) (omega (arith, is.0, fits)) fits same in
+      absurd (omega (arith, wrong, is.0))))) ∙ none);
+}
 
 -- segments hold what some of the journals have
 pub all_in_segments : (state : State) (last : ℕ) (some : List ℕ) (since : List Entry) → last < 2 ^ 64
@@ -430,11 +460,11 @@ sheds_beside zero one two last small same sheds = record {
   are = record {
     ascend = sheds.are.ascend;
     are = λ n. (
-        λ has.
-            let is = (sheds.are.are n).0 has in
-            (is.0, λ none. is.1 (same n (omega (arith, is.0, small)) ∙ none)),
-        λ is. (sheds.are.are n).1 (is.0, λ none. is.1 (sym (same n (omega (arith, is.0, small))) ∙ none)),
-      );
+      λ has.
+          let is = (sheds.are.are n).0 has in
+          (is.0, λ none. is.1 (same n (omega (arith, is.0, small)) ∙ none)),
+      λ is. (sheds.are.are n).1 (is.0, λ none. is.1 (sym (same n (omega (arith, is.0, small))) ∙ none)),
+    );
   };
   gone = sheds.gone;
   stay = λ n n_small apart differs. sheds.stay n n_small apart differs ∙ same n n_small;

@@ -259,7 +259,6 @@ impl RecordStore {
     ) -> Result<(), KeepFault>
         ensures held { OnOk result (D.tells disk.new → (es received : List Entry)
             → IsDraftOf draft (D.state disk.old) day.now es received
-           
             → HeldApart (D.state disk.new) es) }
 
         // whatever the result is: so at every moment

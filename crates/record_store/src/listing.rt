@@ -36,7 +36,11 @@ pub fn journals<D: Disk>(alloc: Global, disk: &mut D, last: u64) -> Result<Vec<u
 ///
 /// # Errors
 /// The disk's fault, lack of memory, or a journal that is too long to be opened.
-pub fn read_journal<D: Disk>(alloc: Global, disk: &mut D, number: u64) -> Result<Vec<u8>, StoreFault>
+pub fn read_journal<D: Disk>(
+    alloc: Global,
+    disk: &mut D,
+    number: u64,
+) -> Result<Vec<u8>, StoreFault>
     ensures read { IfOk result (λ read. D.tells disk.new → IsSound (D.state disk.old)
         → (octets : List ℕ) → journal_shown (D.state disk.old) number ≡ Some octets → read.items ≡ octets) }
     ensures same { D.tells disk.new → IsUnchanged (D.state disk.old) (D.state disk.new) }

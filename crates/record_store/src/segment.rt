@@ -262,7 +262,6 @@ impl RecordStore {
     ) -> Result<(), SegmentFault>
         ensures held { OnOk result (D.tells disk.new → (es received : List Entry)
             → IsOfSegment draft (D.state disk.old) day.now es received
-           
             → HeldApart (D.state disk.new) es) }
 
         // whatever the result is: so at every moment

@@ -82,11 +82,7 @@ fn remove_journal<D: Disk>(alloc: Global, disk: &mut D, number: u64) -> Result<(
 }
 
 // Removes these journals, the first one first.
-fn remove_journals<D: Disk>(
-    alloc: Global,
-    disk: &mut D,
-    numbers: &[u64],
-) -> Result<(), StoreFault>
+fn remove_journals<D: Disk>(alloc: Global, disk: &mut D, numbers: &[u64]) -> Result<(), StoreFault>
     ensures gone { OnOk result (D.tells disk.new → (n : ℕ) → Contains numbers.now n
         → journal_shown (D.state disk.new) n ≡ None) }
 
@@ -143,7 +139,8 @@ fn succeed<D: Disk>(alloc: Global, disk: &mut D, number: u64) -> Result<Journal,
     let numbers = journals(alloc, disk, number)?;
     let journal = make_journal(alloc, disk, number + 1)?;
     let count = numbers.len().min(SHED_MAX);
-    remove_journals(alloc, disk, &numbers[..count])?;
+    let (oldest, _) = numbers.split_at(count);
+    remove_journals(alloc, disk, oldest)?;
     Ok(journal)
 }
 

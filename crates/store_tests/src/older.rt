@@ -46,7 +46,11 @@ fn put(disk: &mut MemoryDisk, name: &FileName, octets: &[u8]) -> Result<(), Fail
 fn with_journals(alloc: Global, numbers: &[u64]) -> Result<MemoryDisk, Fail> {
     let mut disk = MemoryDisk::new(alloc);
     for number in numbers {
-        put(&mut disk, &name_of(alloc, *number)?, &journal(alloc, *number, b"\xfe")?)?;
+        put(
+            &mut disk,
+            &name_of(alloc, *number)?,
+            &journal(alloc, *number, b"\xfe")?,
+        )?;
     }
     Ok(disk)
 }
@@ -88,7 +92,8 @@ fn copies(alloc: Global, disk: &mut MemoryDisk, number: u64) -> Result<usize, Fa
     let mut copies = 0usize;
     for name in disk.names(alloc)? {
         let octets = name.as_octets();
-        let counts = octets.starts_with(b"journal.") || octets.ends_with(b".archive") && octets != b"new.archive".as_slice();
+        let counts = octets.starts_with(b"journal.")
+            || octets.ends_with(b".archive") && octets != b"new.archive".as_slice();
         if counts && has(&octets_of(alloc, disk, octets)?, &record) {
             copies = copies.saturating_add(1);
         }
@@ -105,7 +110,12 @@ fn numbers(alloc: Global, disk: &mut MemoryDisk) -> Result<Vec<u64>, Fail> {
 fn journals_are_told_from_the_oldest_to_the_newest(rt: HostRuntime) -> Result<(), Fail> {
     let alloc = rt.alloc();
     let mut disk = with_journals(alloc, &[10, 9, 200, 3])?;
-    for name in [b"journal.".as_slice(), b"journal.01", b"damaged.journal.4", b"journal.5x"] {
+    for name in [
+        b"journal.".as_slice(),
+        b"journal.01",
+        b"damaged.journal.4",
+        b"journal.5x",
+    ] {
         let name = FileName::new(alloc, name)?.ok_or("no name")?;
         put(&mut disk, &name, b"\xfe")?;
     }
@@ -201,7 +211,11 @@ fn an_older_journal_that_is_torn_is_read_up_to_there(rt: HostRuntime) -> Result<
     let mut disk = MemoryDisk::new(alloc);
     let rows: [(u64, &[u8]); 3] = [(4, b"\xfetorn"), (5, b"\xfe"), (6, b"\xfecut")];
     for (number, behind) in rows {
-        put(&mut disk, &name_of(alloc, number)?, &journal(alloc, number, behind)?)?;
+        put(
+            &mut disk,
+            &name_of(alloc, number)?,
+            &journal(alloc, number, behind)?,
+        )?;
     }
     let mut store = DurableStore::open(alloc, &mut disk)?;
     let want = [
@@ -246,12 +260,18 @@ fn a_kill_at_any_call_loses_nothing(rt: HostRuntime) -> Result<(), Fail> {
                 .crash((calls % 3) as usize, octet, calls % 2 == 0)?;
             let mut store = DurableStore::open(alloc, &mut disk)?;
             for number in row {
-                assert!(rt; copies(alloc, &mut disk, number)? > 0, "at {calls}, {octet:?}");
+                assert!(rt;
+                    copies(alloc, &mut disk, number)? > 0,
+                    "at {calls}, {octet:?}"
+                );
             }
             store.checkpoint(alloc, &mut disk)?;
             assert_eq!(rt; numbers(alloc, &mut disk)?.len(), 1);
             for number in row {
-                assert!(rt; copies(alloc, &mut disk, number)? > 0, "at {calls}, {octet:?}");
+                assert!(rt;
+                    copies(alloc, &mut disk, number)? > 0,
+                    "at {calls}, {octet:?}"
+                );
             }
         }
     }

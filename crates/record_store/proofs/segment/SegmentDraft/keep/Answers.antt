@@ -122,7 +122,7 @@ returns-then-branch-clause-held g c tells es received of =
     let file = shows_of zero c.args.self.name of.text of.drafts.shown of.drafts.sound in
     let segment = rw c.in-Some.is at c.in_ok-name.ensures.segment in
     let differs = name_apart c.args.self.name c.args.day.now c.in-Some.name segment of.apart in
-    segment_held c.in-Some.name c.args.day.now of.text es segment of.is new 
+    segment_held c.in-Some.name c.args.day.now of.text es segment of.is new
     (subst (λ (t : List ℕ). IsOnDisk new c.in-Some.name t) file.2
     (c.in_ok-bring.ensures.brought c.if-branch.true tells file.0 file.1 differs))
 
