@@ -1,5 +1,6 @@
 use Rattle.std.proofs.Common.{◌≡◌, ◌+◌, ◌<◌, ◌^◌, List, ℕ, [], ◌∷◌, ◌++◌, arith, take, sym, ap, subst, ◌∙◌, rules}
-use Rattle.std.specs.Prelude.{Contains}
+use Rattle.std.specs.Prelude.{Contains, slice_index}
+use Rattle.std.proofs.lemmas.Grind.{common_steps}
 use Rattle.std.specs.List.Sorted.{IsStrictlyIncreasing}
 use Rattle.std.proofs.lemmas.List.{take_all, take_more}
 use Rattle.std.proofs.lemmas.List.Elements.{Contains-push}
@@ -32,10 +33,9 @@ loop-number-preserved g c =
     let numbers = c.in_ok-numbers.numbers.items in
     let index = c.loop-number.number-index in
     let first = take index numbers in
-    let number = c.number-item.result in
-    let small : number < 2 ^ 64 = omega arith in
-    let more = take_more numbers index number c.loop-number-test.true
-    ∙ ap (λ (n : ℕ). first ++ n ∷ []) (sym c.number-item.is) in
+    let number = slice_index numbers index in
+    let small : number < 2 ^ 64 = first_of (omega arith, search rules, grind (arith, common_steps)) in
+    let more = take_more numbers index 0 c.loop-number-test.true in
     record {
       told = λ tells. c.loop-number.invariant.told (c.add_journal.ensures.told tells);
       same = λ tells.
@@ -103,10 +103,9 @@ returns-in_err-add_journal-clause-cause g c =
     let numbers = c.in_ok-numbers.numbers.items in
     let index = c.loop-number.number-index in
     let first = take index numbers in
-    let number = c.number-item.result in
-    let small : number < 2 ^ 64 = omega arith in
-    let more = take_more numbers index number c.loop-number-test.true
-    ∙ ap (λ (n : ℕ). first ++ n ∷ []) (sym c.number-item.is) in
+    let number = slice_index numbers index in
+    let small : number < 2 ^ 64 = first_of (omega arith, search rules, grind (arith, common_steps)) in
+    let more = take_more numbers index 0 c.loop-number-test.true in
     let fault = c.in_err-add_journal.field-0.0 in
     at_err c.from_residual-in_err-add_journal.result fault (IsOpeningCause tells_then failed_then zero)
     c.from_residual-in_err-add_journal.ensures.1
