@@ -1,6 +1,7 @@
-use Rattle.std.proofs.Common.{◌≡◌, List, ℕ, ap, arith, subst, sym, ◌∙◌, refl}
-use Rattle.record_store.specs.Asides.{IsAside, aside_name}
-use Rattle.record_store.specs.Causes.{IsCause, aside_causes, reading_causes}
+use Rattle.std.proofs.Common.{◌≡◌, List, ℕ, ap, arith, rules, subst, sym, ◌∙◌, refl}
+use Rattle.std.proofs.lemmas.Grind.{common_steps}
+use Rattle.record_store.specs.Asides.{IsAside, aside_causes, aside_name}
+use Rattle.record_store.specs.Causes.{IsCause, reading_causes}
 use Rattle.record_store.proofs.Asides.{counted_keeps, others_counted}
 use Rattle.durable_store.proofs.Asides.{aside_fails, aside_leaves, aside_shown, cut_aside, cut_beside, cut_fails}
 use Rattle.durable_store.proofs.Readable.{at_err}
@@ -93,6 +94,6 @@ returns-in_err-cut_journal-clause-cause g c =
     (λ tells sound.
     let told = c.cut_journal.ensures.told tells in
     let aside = c.in_ok-set_aside.ensures.aside told sound in aside.now.sound)
-    (λ tells. aside_leaves zero one c.args.tail.now.number (omega (arith, c.ranges.tail.now.number.fits))
+    (λ tells. aside_leaves zero one c.args.tail.now.number (first_of (omega arith, search rules, grind (arith, common_steps)))
     (c.set_aside.ensures.others (c.cut_journal.ensures.told tells)))
     fault c.in_err-cut_journal.ensures.cause)
