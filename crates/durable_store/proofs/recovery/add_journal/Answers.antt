@@ -1,4 +1,4 @@
-use Rattle.std.proofs.Common.{◌≡◌, List, ℕ, arith, inl, inr, subst, sym, refl, ap, length, ◌∙◌}
+use Rattle.std.proofs.Common.{◌≡◌, List, ℕ, arith, inl, inr, subst, sym, refl, ap, drop, length, ◌∙◌}
 use Rattle.journal.specs.Journals.{EndsAt}
 use Rattle.record_store.specs.Holdings.{IsWholeJournal, JournalHas}
 use Rattle.archive_pages.specs.Paged.{entries_in}
@@ -35,7 +35,7 @@ returns-then-behind-le1-clause-adds g c tells sound octets shown =
           arith,
           ap length (one_behind octets others c.split_at.result.1.now is
               (behind_of octets c.deref.result.now c.split_at.result.1.now c.in_ok-end.end same
-              c.in_ok-end.ensures.ends c.split_at.ensures.back)),
+              c.in_ok-end.ensures.ends (c.split_at.ensures.back ∙ ap (drop c.in_ok-end.end) (c.deref-2.ensures.value ∙ sym c.deref.ensures.value)))),
         ),
       );
     }
@@ -53,7 +53,7 @@ pub returns-in-Ok-clause-adds : goal.returns-in-Ok-clause-adds
 returns-in-Ok-clause-adds g c tells sound octets shown =
     let same = c.deref.ensures.value ∙ c.in_ok-octets.ensures.read tells sound octets shown in
     let behind = behind_of octets c.deref.result.now c.split_at.result.1.now c.in_ok-end.end same
-    c.in_ok-end.ensures.ends c.split_at.ensures.back in
+    c.in_ok-end.ensures.ends (c.split_at.ensures.back ∙ ap (drop c.in_ok-end.end) (c.deref-2.ensures.value ∙ sym c.deref.ensures.value)) in
     let copied = c.in_ok-octets-2.ensures in
     record {
       adds = subst (λ (o : List ℕ). Adds (entries_in c.args.set.now) (entries_in c.add_batches.new.set) (JournalHas o)) same
