@@ -193,6 +193,56 @@ def damaged_journal(runs):
     runs.results.same("a journal as it was", runs.verify(server.store), (0, b"", b""))
 
 
+def sealed_journal(record, behind=b""):
+    """A journal of one record, and octets behind the one that the next batch is opened by."""
+    text = framed("counted", record)
+    return open_batch(text + seal_of(text)) + bytes([CLOSED]) + behind
+
+
+def with_journals(runs, files):
+    """A store's folder that has these files."""
+    store = runs.store()
+    store.mkdir(mode=0o700)
+    for name, octets in files.items():
+        (store / name).write_bytes(octets)
+    return store
+
+
+def left_journals(runs):
+    """Journals that a stopped checkpoint left are read at a start, and the next checkpoint removes them."""
+    left = [numbered(n) for n in range(3)]
+    store = with_journals(runs, {"journal.3": sealed_journal(left[0]), "journal.4": sealed_journal(left[1], b"torn"),
+                                 "journal.9": sealed_journal(left[2])})
+    sent = records("left", 0, 2_000, 2_200)
+    right = runs.archive(counted([*left, *sent]), "--framing", "counted")
+    with runs.until_eof(*any_port("counted"), *SOON, "--checkpoint", 1, store=store) as server:
+        runs.holds("journals that were left", server, *left)
+        server.send("counted", counted(sent))
+        runs.results.same("beside journals that were left: what is read", server.until_held(right[1]), right)
+        status, lines = server.end()
+        line = b"journal.4: 5 octets behind the last batch set aside in damaged.journal.4"
+        runs.results.check("journals that were left: its end", status == 0 and lines == [line], f"{status} {lines}")
+    files = files_of(store)
+    journals = [name for name in files if JOURNAL.fullmatch(name)]
+    is_one = len(journals) == 1 and int(journals[0][8:]) > 9
+    runs.results.check("journals that were left: one is there", is_one, str(journals))
+    runs.results.check("journals that were left: what the files hold", held(files) == {*left, *sent})
+    aside = (store / "damaged.journal.4").read_bytes()
+    runs.results.same("journals that were left: what is set aside", aside, bytes([CLOSED]) + b"torn")
+
+
+def damaged_left_journal(runs):
+    """A damaged journal is told whichever it is, and nothing is changed."""
+    whole = {f"journal.{n}": sealed_journal(numbered(n), b"torn") for n in range(1, 4)}
+    for name in whole:
+        octets = bytearray(whole[name])
+        octets[HEAD + 20] ^= 1
+        store = with_journals(runs, {**whole, name: bytes(octets)})
+        before = files_of(store)
+        runs.refused(f"{name} is damaged", any_port("lf"), store, f"{name}: another checksum at", store=store)
+        runs.results.check(f"{name} is damaged: nothing is changed", files_of(store) == before)
+
+
 # ---------------------------------------------------------------- disks
 
 def full(runs):
@@ -566,5 +616,5 @@ def options(runs):
         runs.results.check(f"serve {words}", right, f"{status} {output} {notes}")
 
 
-KEPT = [moved, removed, kills, checkpoints, damaged_journal, older_journal, full, full_mount, failing, written_anew, damaged_and_noted,
-        full_anew, gone_reader, second, ports, paths, folders, options]
+KEPT = [moved, removed, kills, checkpoints, damaged_journal, older_journal, left_journals, damaged_left_journal, full,
+        full_mount, failing, written_anew, damaged_and_noted, full_anew, gone_reader, second, ports, paths, folders, options]

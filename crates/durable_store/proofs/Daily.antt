@@ -17,16 +17,17 @@ use Rattle.archive_text.specs.declared.limits.TheConstants.{ENTRY_MAX}
 use Rattle.archive_text.proofs.Ascending.{archive_left, archive_right}
 use Rattle.archive_text.proofs.Members.{all_append, all_weaker, has_either, has_left, has_right}
 use Rattle.archive_text.proofs.Texts.{text_length, text_push, text_some}
+use Rattle.record_store.specs.Crashes.{HeldApart}
 use Rattle.record_store.specs.Holdings.{IsOfPeriod}
 use Rattle.record_store.specs.Keeping.{IsDraftOf}
-use Rattle.record_store.specs.Names.{Counts, journal_name}
-use Rattle.record_store.specs.Segments.{Drafts, SegmentsGrow}
+use Rattle.record_store.specs.Names.{Counts}
+use Rattle.record_store.specs.Segments.{Drafts, GrowsBeside}
 use Rattle.record_store.specs.Stores.{AreAmong, IsBroken, IsWhole, Sets, Stands as JournalStands}
-use Rattle.record_store.specs.Turns.{HeldApart}
 use Rattle.record_store.specs.declared.segment.SegmentDraft.{SegmentDraft}
 use Rattle.record_store.specs.declared.store.RecordStore.{RecordStore}
+use Rattle.record_store.proofs.Apart.{segments_less}
 use Rattle.record_store.proofs.Drafted.{aside_stands}
-use Rattle.record_store.proofs.Remaining.{grow_then}
+use Rattle.record_store.proofs.Remaining.{beside_then}
 use Rattle.durable_store.specs.Causes.{StandsWith}
 use Rattle.durable_store.specs.Segments.{HoldsApart, IsWritten, KeepsAside, Mixes, MixesDay, Puts, PutsDay, PutsEntries}
 use Rattle.durable_store.specs.Segments.{StillHolds, WritesDay, WritesDays, WritesMixed, WritesShare}
@@ -46,11 +47,11 @@ aside_then a b c name one other = record {
 }
 
 -- what files of names that count hold apart they hold still
-pub aside_apart : (old new : State) (draft name : List ℕ) (es : List Entry) → KeepsAside old new draft
-    → ¬ (Counts draft) → HeldApart old name es → HeldApart new name es
-aside_apart old new draft name es aside apart held files may e has =
-    held files (λ other counts. subst (λ (x : DiskEntry). NameMayLeave x (files other))
-    (aside.others other (λ (is : other ≡ draft). apart (subst Counts is counts))) (may other counts)) e has
+pub aside_apart : (old new : State) (draft : List ℕ) (es : List Entry) → KeepsAside old new draft
+    → ¬ (Counts draft) → HeldApart old es → HeldApart new es
+aside_apart old new draft es aside apart held e has =
+    segments_less old new (λ day name segment octets may. subst (λ (x : DiskEntry). NameMayLeave x octets)
+    (aside.others name (λ (is : name ≡ draft). apart (subst Counts is (inr (day, segment))))) may) e (held e has)
 
 pub aside_on : (old new : State) (draft : List ℕ) (store : RecordStore) (sets : Sets) → KeepsAside old new draft
     → ¬ (Counts draft) → JournalStands store old sets → JournalStands store new sets
@@ -203,24 +204,24 @@ module _ (zero two three : State) (tells : Type 0) (store after : RecordStore) (
   kept_stands keeps tell sound sets stands archive among =
       keeps es sets (drafted.is tell sound sets.received archive among) (drafted_stands tell sets stands)
 
-  pub kept_held : (tells → (es received : List Entry) → IsDraftOf draft two period es received → (number : ℕ)
-      → number < 2 ^ 64 → HeldApart three (journal_name number) es) → HoldsApart tells zero three these es
-  kept_held held tell sound received archive among number small =
-      held tell es received (drafted.is tell sound received archive among) number small
+  pub kept_held : (tells → (es received : List Entry) → IsDraftOf draft two period es received → HeldApart three es)
+      → HoldsApart tells zero three these es
+  kept_held held tell sound received archive among =
+      held tell es received (drafted.is tell sound received archive among)
 
-  pub kept_still : (tells → (es received : List Entry) → IsDraftOf draft two period es received → (n : List ℕ)
-      (others : List Entry) → HeldApart two n others → HeldApart three n others) → StillHolds tells zero three these
-  kept_still still tell sound received archive among n others before =
-      still tell es received (drafted.is tell sound received archive among) n others
-      (aside_apart zero two draft.name n others (drafted.across tell) drafted.apart before)
+  pub kept_still : (tells → (es received : List Entry) → IsDraftOf draft two period es received
+      → (others : List Entry) → HeldApart two others → HeldApart three others) → StillHolds tells zero three these
+  kept_still still tell sound received archive among others before =
+      still tell es received (drafted.is tell sound received archive among) others
+      (aside_apart zero two draft.name others (drafted.across tell) drafted.apart before)
 
-  pub drafted_grow : tells → SegmentsGrow 0 zero two
+  pub drafted_grow : tells → GrowsBeside 0 zero two
   drafted_grow tell = aside_grow zero two draft.name (drafted.across tell) drafted.apart
 
-  pub kept_grow : (tells → (text : List ℕ) → Drafts draft two text → ¬ (Counts draft.name) → SegmentsGrow 1 two three)
-      → tells → IsSound zero → SegmentsGrow 1 zero three
+  pub kept_grow : (tells → (text : List ℕ) → Drafts draft two text → ¬ (Counts draft.name) → GrowsBeside 1 two three)
+      → tells → IsSound zero → GrowsBeside 1 zero three
   kept_grow grows tell sound =
-      grow_then 0 1 zero two three (drafted_grow tell)
+      beside_then 0 1 zero two three (drafted_grow tell)
       (grows tell (text_of es) (drafted.drafts tell sound) drafted.apart)
 
 -- ---- a day
@@ -265,21 +266,20 @@ day_drafted zero one two tells told begun draft name day first behind rest back 
 
 -- ---- all days
 
-held_none : (state : State) (name : List ℕ) → HeldApart state name []
-held_none state name files may e has = absurd has
+held_none : (state : State) → HeldApart state []
+held_none state e has = absurd has
 
-held_both : (state : State) (name : List ℕ) (a b : List Entry) → HeldApart state name a → HeldApart state name b
-    → HeldApart state name (a ++ b)
-held_both state name a b one other files may e has =
-    ⊎_elim (λ left. one files may e left) (λ right. other files may e right) (has_either a b e has)
+held_both : (state : State) (a b : List Entry) → HeldApart state a → HeldApart state b → HeldApart state (a ++ b)
+held_both state a b one other e has =
+    ⊎_elim (λ left. one e left) (λ right. other e right) (has_either a b e has)
 
 -- where each day is held all are
-days_held : (state : State) (name : List ℕ) (these : List Entry) (runs : List (List Entry)) → AreDays these runs []
-    → AllByRecursion (λ run. HeldApart state name run) runs → HeldApart state name these
-days_held state name these [] is all = subst (λ (l : List Entry). HeldApart state name l) (sym is) (held_none state name)
-days_held state name these (run ∷ runs) (behind, day, more) all =
-    subst (λ (l : List Entry). HeldApart state name l) (sym day.parts)
-    (held_both state name run behind all.0 (days_held state name behind runs more all.1))
+days_held : (state : State) (these : List Entry) (runs : List (List Entry)) → AreDays these runs []
+    → AllByRecursion (λ run. HeldApart state run) runs → HeldApart state these
+days_held state these [] is all = subst (λ (l : List Entry). HeldApart state l) (sym is) (held_none state)
+days_held state these (run ∷ runs) (behind, day, more) all =
+    subst (λ (l : List Entry). HeldApart state l) (sym day.parts)
+    (held_both state run behind all.0 (days_held state behind runs more all.1))
 
 rest_among : (all done rest received : List Entry) → all ≡ done ++ rest → AreAmong all received → AreAmong rest received
 rest_among all done rest received parts among e has =
@@ -311,7 +311,7 @@ none_written tells total store state all = record {
     runs = [];
     are = refl;
     shares = inr tt;
-    held = λ tell sets whole stands among number small. tt;
+    held = λ tell sets whole stands among. tt;
   };
   grows = λ tell whole stands. nothing_grows total 0 state;
 }
@@ -364,19 +364,18 @@ module _ (tells told : Type 0) (total : ℕ) (before : RecordStore) (old : State
         (share.grows tell (days_sound (back tell) with.0 whole with.1 with.2)))
 
     still_held : tells → (sets : Sets) → IsWhole before → JournalStands before old sets → AreAmong all sets.received
-        → (number : ℕ) → number < 2 ^ 64
-        → AllByRecursion (λ run. HasShare total run → HeldApart new (journal_name number) run)
+        → AllByRecursion (λ run. HasShare total run → HeldApart new run)
         (written.writes.runs ++ share.run ∷ [])
-    still_held tell sets whole stands among number small =
+    still_held tell sets whole stands among =
         let sound = days_sound (back tell) sets whole stands among in
         let among_then = rest_among all written.done (first ∷ behind) sets.received these among in
-        all_append (λ run. HasShare total run → HeldApart new (journal_name number) run) written.writes.runs
+        all_append (λ run. HasShare total run → HeldApart new run) written.writes.runs
         (share.run ∷ [])
-        (all_weaker (λ run. HasShare total run → HeldApart state (journal_name number) run)
-        (λ run. HasShare total run → HeldApart new (journal_name number) run)
-        (λ run held has. share.still tell sound sets.received last among_then (journal_name number) run (held has))
-        written.writes.runs (written.writes.held (back tell) sets whole stands among number small))
-        ((λ has. share.held has tell sound sets.received last among_then number small), tt)
+        (all_weaker (λ run. HasShare total run → HeldApart state run)
+        (λ run. HasShare total run → HeldApart new run)
+        (λ run held has. share.still tell sound sets.received last among_then run (held has))
+        written.writes.runs (written.writes.held (back tell) sets whole stands among))
+        ((λ has. share.held has tell sound sets.received last among_then), tt)
 
     pub share_writes : (skips : Bool) → (IsTrue skipped → IsTrue skips) → (wrote ≡ false → IsTrue skips)
         → WritesDays tells total before old new skips all next
@@ -449,7 +448,7 @@ share_of_all total len day first behind rest counts share =
     )
 
 pub share_grows_all : (total len : ℕ) (day : List ℕ) (first : Entry) (behind rest : List Entry) (old new : State)
-    → CountsDay len day first behind rest → IsShare total len → SegmentsGrow 1 old new
+    → CountsDay len day first behind rest → IsShare total len → GrowsBeside 1 old new
     → GrowsBy total (length (text_of (first ∷ behind))) old new
 share_grows_all total len day first behind rest old new counts share grow =
     grows_one total (length (text_of (first ∷ behind))) old new grow
@@ -457,7 +456,7 @@ share_grows_all total len day first behind rest old new counts share grow =
 
 pub share_kept : (tells : Type 0) (total : ℕ) (old new : State) (these rest : List Entry)
     (writes : WritesDay tells old new these rest) → HasShare total writes.run
-    → (tells → IsSound old → SegmentsGrow 1 old new) → WritesShare tells total old new true these rest
+    → (tells → IsSound old → GrowsBeside 1 old new) → WritesShare tells total old new true these rest
 share_kept tells total old new these rest writes has grow = record {
   run = writes.run;
   is = writes.is;
@@ -536,29 +535,29 @@ module _ (tells told : Type 0) (total : ℕ) (before : RecordStore) (old : State
     (writes : WritesDays told total before old state skipped all []) where
   -- where no day was skipped
   pub all_held : skipped ≡ false → told → (sets : Sets) → IsWhole before → JournalStands before old sets
-      → AreAmong all sets.received → (number : ℕ) → number < 2 ^ 64 → HeldApart state (journal_name number) all
-  all_held none tell sets whole stands among number small =
-      days_held state (journal_name number) all writes.runs writes.are
-      (all_with (HasShare total) (λ run. HasShare total run → HeldApart state (journal_name number) run)
-      (λ run. HeldApart state (journal_name number) run) (λ run has held. held has) writes.runs
+      → AreAmong all sets.received → HeldApart state all
+  all_held none tell sets whole stands among =
+      days_held state all writes.runs writes.are
+      (all_with (HasShare total) (λ run. HasShare total run → HeldApart state run)
+      (λ run. HeldApart state run) (λ run has held. held has) writes.runs
       (⊎_elim (λ yes. absurd (cc (yes, none))) (λ have. have) writes.shares)
-      (writes.held tell sets whole stands among number small))
+      (writes.held tell sets whole stands among))
 
   pub both_held : WritesMixed tells total state new all → (told → (sets : Sets) → IsWhole before
       → JournalStands before old sets → AreAmong all sets.received → IsSound state) → tells → (sets : Sets)
-      → IsWhole before → JournalStands before old sets → AreAmong all sets.received → (number : ℕ) → number < 2 ^ 64
-      → HeldApart new (journal_name number) all
-  both_held others sounds tell sets whole stands among number small =
+      → IsWhole before → JournalStands before old sets → AreAmong all sets.received
+      → HeldApart new all
+  both_held others sounds tell sets whole stands among =
       let sound = sounds (back tell) sets whole stands among in
       let same = days_once all others.runs writes.runs others.are writes.are in
-      let mixed = others.held tell sound sets.received archive among number small in
-      days_held new (journal_name number) all writes.runs writes.are
-      (all_with (λ run. HasShare total run → HeldApart state (journal_name number) run)
-      (λ run. HasShare total run ⊎ AreAmong run others.mixed) (λ run. HeldApart new (journal_name number) run)
+      let mixed = others.held tell sound sets.received archive among in
+      days_held new all writes.runs writes.are
+      (all_with (λ run. HasShare total run → HeldApart state run)
+      (λ run. HasShare total run ⊎ AreAmong run others.mixed) (λ run. HeldApart new run)
       (λ run held either. ⊎_elim
-      (λ has. others.still tell sound sets.received archive among (journal_name number) run (held has))
-      (λ (these : AreAmong run others.mixed) files may e has. mixed files may e (these e has)) either)
-      writes.runs (writes.held (back tell) sets whole stands among number small)
+      (λ has. others.still tell sound sets.received archive among run (held has))
+      (λ (these : AreAmong run others.mixed) e has. mixed e (these e has)) either)
+      writes.runs (writes.held (back tell) sets whole stands among)
       (subst (λ (runs : List (List Entry)). Mixes total runs others.mixed) same others.mixes))
 
 -- ---- a checkpoint
@@ -579,9 +578,9 @@ pub on_err : {T E P : Type 0} (r : Result T E) → P → OnErr r P
 on_err (Ok x) p = tt
 on_err (Err e) p = p
 
-pub since_held : (state : State) (name : List ℕ) (set since : List Entry) → HeldApart state name set
-    → AreAmong since set → HeldApart state name since
-since_held state name set since held among files may e has = held files may e (among e has)
+pub since_held : (state : State) (set since : List Entry) → HeldApart state set → AreAmong since set
+    → HeldApart state since
+since_held state set since held among e has = held e (among e has)
 
 pub not_broken : (store : RecordStore) (told : Bool) → IsTrue told ↔ IsBroken store → told ≡ false → IsWhole store
 not_broken store told same none = ⊎_elim

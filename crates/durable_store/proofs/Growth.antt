@@ -17,8 +17,8 @@ use Rattle.archive_text.specs.Text.{entry_text, text_of}
 use Rattle.archive_text.specs.declared.limits.TheConstants.{ENTRY_MAX}
 use Rattle.archive_text.proofs.Texts.{text_push}
 use Rattle.record_store.specs.Names.{Counts}
-use Rattle.record_store.specs.Segments.{SegmentsGrow}
-use Rattle.record_store.proofs.Remaining.{grow_less, grow_then, none_grow}
+use Rattle.record_store.specs.Segments.{GrowsBeside}
+use Rattle.record_store.proofs.Remaining.{beside_less, beside_then, none_beside}
 use Rattle.durable_store.specs.Segments.{KeepsAside}
 use Rattle.durable_store.specs.Shares.{GrowsBy, IsShare}
 
@@ -33,14 +33,13 @@ share_part total n small share = omega (arith, small, share)
 -- ---- beside a draft
 
 pub aside_grow : (old new : State) (draft : List ℕ) → KeepsAside old new draft → ¬ (Counts draft)
-    → SegmentsGrow 0 old new
+    → GrowsBeside 0 old new
 aside_grow old new draft aside apart =
-    none_grow old new (λ period name segment.
-    ap shown_now (aside.others name (λ is. apart (subst Counts is (inr (period, segment))))))
+    none_beside old new (λ name counts. ap shown_now (aside.others name (λ is. apart (subst Counts is counts))))
 
 -- ---- segments that octets allow
 
-pub grows_none : (total octets : ℕ) (old new : State) → SegmentsGrow 0 old new → GrowsBy total octets old new
+pub grows_none : (total octets : ℕ) (old new : State) → GrowsBeside 0 old new → GrowsBy total octets old new
 grows_none total octets old new grow = record {
   count = 0;
   grow = grow;
@@ -50,9 +49,9 @@ grows_none total octets old new grow = record {
 
 pub nothing_grows : (total octets : ℕ) (state : State) → GrowsBy total octets state state
 nothing_grows total octets state =
-    grows_none total octets state state (none_grow state state (λ period name segment. refl))
+    grows_none total octets state state (none_beside state state (λ name counts. refl))
 
-pub grows_one : (total octets : ℕ) (old new : State) → SegmentsGrow 1 old new → IsShare total octets → 0 < octets
+pub grows_one : (total octets : ℕ) (old new : State) → GrowsBeside 1 old new → IsShare total octets → 0 < octets
     → GrowsBy total octets old new
 grows_one total octets old new grow share some = record {
   count = 1;
@@ -74,20 +73,20 @@ pub grows_then : (total octets more : ℕ) (a b c : State) → GrowsBy total oct
     → GrowsBy total (octets + more) a c
 grows_then total octets more a b c one other = record {
   count = one.count + other.count;
-  grow = grow_then one.count other.count a b c one.grow other.grow;
+  grow = beside_then one.count other.count a b c one.grow other.grow;
   shares = omega (arith, one.shares, other.shares);
   some = omega (arith, one.some, other.some);
 }
 
 -- as many as have a 64th of all
-pub grows_few : (total : ℕ) (old new : State) → GrowsBy total total old new → SegmentsGrow 64 old new
-grows_few zero old new grows = grow_less grows.count 64 old new (omega (arith, grows.some)) grows.grow
+pub grows_few : (total : ℕ) (old new : State) → GrowsBy total total old new → GrowsBeside 64 old new
+grows_few zero old new grows = beside_less grows.count 64 old new (omega (arith, grows.some)) grows.grow
 grows_few (suc n) old new grows =
-    grow_less grows.count 64 old new (le_of_mul-le-mul_right {k = suc n} grows.shares (omega arith)) grows.grow
+    beside_less grows.count 64 old new (le_of_mul-le-mul_right {k = suc n} grows.shares (omega arith)) grows.grow
 
 -- of a set
 pub grows_set : (set : PagedArchive) (total : ℕ) → total ≡ length (text_of (entries_in set)) → (old new : State)
-    → GrowsBy total (length (text_of (entries_in set))) old new → SegmentsGrow 64 old new
+    → GrowsBy total (length (text_of (entries_in set))) old new → GrowsBeside 64 old new
 grows_set set total same old new grows =
     grows_few total old new (subst (λ (n : ℕ). GrowsBy total n old new) (sym same) grows)
 

@@ -3,8 +3,8 @@ pub mod Asides
 pub mod Daily
 pub mod Failing
 pub mod Growth
+pub mod Journals
 pub mod Mixing
-pub mod Newest
 pub mod Readable
 pub mod Recovered
 pub mod Runs

@@ -10,8 +10,7 @@ use Rattle.octet_language.specs.Language.{AnyOf}
 use Rattle.syslog_value.specs.Parts.{Parts}
 use Rattle.syslog_reading.specs.WellFormed.{WellFormed}
 use Rattle.syslog_grammar.proofs.CanonicalParses.{canonical_well_formed}
-use Rattle.disk.specs.States.{State}
-use Rattle.journal.specs.Journals.{EndsAt, IsSound}
+use Rattle.journal.specs.Journals.{EndsAt}
 use Rattle.archive_text.specs.Entries.{Entry, IsEntry, IsEntryOf}
 use Rattle.archive_text.specs.Faults.{IsFaultBefore}
 use Rattle.archive_text.specs.Text.{text_of}
@@ -23,10 +22,8 @@ use Rattle.archive_text.proofs.Prefixes.{fault_excludes}
 use Rattle.record_store.specs.Holdings.{IsReadable, IsSealedBatch, IsWholeJournal, SomeIsSealed}
 use Rattle.record_store.specs.Holdings.{StaySealed}
 use Rattle.record_store.specs.Seals.{HasMore, HidesBatches, Seals}
-use Rattle.record_store.specs.Shown.{IsNewestShown}
 use Rattle.record_store.proofs.Sealed.{RestOf, begins_some, rest_of, rest_seals}
 use Rattle.record_store.proofs.Unsealed.{sealed_next}
-use Rattle.durable_store.specs.Causes.{IsOpeningCause}
 use Rattle.durable_store.specs.Recovery.{BeginsWithSome, Refutes}
 use Rattle.durable_store.specs.declared.fault.OpenFault.{OpenFault}
 use Rattle.durable_store.specs.declared.fault.OpenFault.TheVariants.{Store, Damaged, Memory}
@@ -179,15 +176,3 @@ pub entry_fits : (e : Entry) → IsEntry e
     → ¬ (length e.octets ≤ ENTRY_MAX)
 entry_fits e (r, is) long fits =
     let above = long r e (canonical_well_formed r e.octets is.valid is.canonical) is in omega arith
-
--- the journal that was read is damaged
-pub opening_refuted : (tells failed : Type 0) (state : State) (number : ℕ) (octets : List ℕ) (fault : OpenFault)
-    → (tells → IsSound state → IsNewestShown state number octets) → Refutes number (IsWholeJournal octets) fault
-    → IsOpeningCause tells failed state fault
-opening_refuted tells failed state number octets (Store fault) newest bad = absurd bad
-opening_refuted tells failed state number octets (Damaged at fault) newest bad = λ told sound. record {
-  octets = octets;
-  newest = subst (λ (n : ℕ). IsNewestShown state n octets) (sym bad.0) (newest told sound);
-  damaged = bad.1;
-}
-opening_refuted tells failed state number octets Memory newest bad = tt

@@ -1,13 +1,14 @@
 -- Why a call on a durable store fails.
-use Rattle.std.specs.Prelude.{◌≡◌, ◌⊎◌, ℕ, ◌+◌, ◌^◌, List}
+use Rattle.std.specs.Prelude.{◌≡◌, ◌⊎◌, ℕ, ◌+◌, ◌^◌, List, Some}
 use Rattle.disk.specs.States.{State}
 use Rattle.disk.specs.declared.fault.DiskFault.TheVariants.{Full}
 use Rattle.journal.specs.Journals.{IsSound}
 use Rattle.archive_text.specs.Entries.{Entry}
 use Rattle.record_store.specs.Causes.{Causes, IsCause, IsFileCause, TellsFull as StoreTellsFull, opening_causes}
+use Rattle.record_store.specs.Causes.{reading_causes}
 use Rattle.record_store.specs.Holdings.{IsWholeJournal}
 use Rattle.record_store.specs.Keeping.{ShowsOther}
-use Rattle.record_store.specs.Shown.{IsNewestShown}
+use Rattle.record_store.specs.Shown.{journal_shown}
 use Rattle.record_store.specs.Stores.{AreAmong, IsBroken, Sets, Stands as JournalStands, number_of}
 use Rattle.record_store.specs.declared.keeping.KeepFault.{KeepFault}
 use Rattle.record_store.specs.declared.keeping.KeepFault.TheVariants.{Disk, Day, Differs}
@@ -24,10 +25,10 @@ abbrev pub TellsFull : CheckpointFault → Type 0
 TellsFull (Store fault) = StoreTellsFull fault
 TellsFull (Segment fault) = fault ≡ Disk Full
 
--- the newest journal that is shown has this number, and is not whole
+-- the journal of this number is shown, and is not whole
 pub record ShowsDamaged (state : State) (number : ℕ) : Type 0 where
   pub octets : List ℕ
-  pub newest : IsNewestShown state number octets
+  pub shown : journal_shown state number ≡ Some octets
   pub damaged : ¬ (IsWholeJournal octets)
 
 -- damage is told
@@ -41,6 +42,13 @@ abbrev pub IsOpeningCause : Type 0 → Type 0 → State → OpenFault → Type 0
 IsOpeningCause tells failed state (Of_store fault) = IsCause (opening_causes tells failed state) fault
 IsOpeningCause tells failed state (Damaged number fault) = tells → IsSound state → ShowsDamaged state number
 IsOpeningCause tells failed state Memory = Unit {0}
+
+-- where a journal that is shown is not read
+abbrev pub IsReadingCause : Type 0 → Type 0 → State → ℕ → OpenFault → Type 0
+IsReadingCause tells failed state number (Of_store fault) = IsCause (reading_causes tells failed state number) fault
+IsReadingCause tells failed state number (Damaged at fault) = (at ≡ number)
+    × (tells → IsSound state → (octets : List ℕ) → journal_shown state number ≡ Some octets → ¬ (IsWholeJournal octets))
+IsReadingCause tells failed state number Memory = Unit {0}
 
 -- ---- a checkpoint
 

@@ -1,16 +1,16 @@
 -- What a durable store is on a disk.
-use Rattle.std.specs.Prelude.{◌↔◌, ℕ, ℤ, List}
+use Rattle.std.specs.Prelude.{◌≡◌, ◌⊎◌, ◌↔◌, ℕ, ℤ, List}
 use Rattle.disk.specs.States.{State}
 use Rattle.syslog_value.specs.Parts.{Parts}
 use Rattle.archive_text.specs.Entries.{Entry, Has, IsEntryOf}
 use Rattle.archive_text.specs.declared.store.Added.{Added}
 use Rattle.archive_text.specs.declared.store.Added.TheVariants.{New, Held}
 use Rattle.archive_pages.specs.Paged.{entries_in}
-use Rattle.record_store.specs.Holdings.{IsWholeJournal, JournalHas}
-use Rattle.record_store.specs.Shown.{GivesNewest, IsNewestShown}
+use Rattle.record_store.specs.Shown.{IsNewestShown, ShowsNoJournal}
 use Rattle.record_store.specs.Stores.{IsBroken as IsStoreBroken, Sets, Stands as JournalStands, batch_of, number_of}
 use Rattle.record_store.specs.Stores.{with_waiting}
 use Rattle.record_store.specs.declared.store.RecordStore.{RecordStore}
+use Rattle.durable_store.specs.Recovery.{IsRecovered}
 use Rattle.durable_store.specs.declared.store.DurableStore.{DurableStore}
 
 -- the entries in memory, in order
@@ -35,12 +35,12 @@ pub record Stands (store : DurableStore) (state : State) (sets : Sets) : Type 0 
   pub journal : JournalStands store.store state sets
   pub held : (e : Entry) → Has (entries_of store) e ↔ Has sets.since e
 
--- the entries in memory are those of the batches of the newest journal that is shown, and it is whole
+-- The entries in memory are those of the journals that a read shows, each of which is whole, and the store goes on with
+-- the newest, or with the first where there is none.
 pub record Recovers (store : DurableStore) (state : State) : Type 0 where
-  pub text : List ℕ
-  pub newest : GivesNewest state (number_of store.store) text
-  pub has : (e : Entry) → Has (entries_of store) e ↔ JournalHas text e
-  pub whole : (octets : List ℕ) → IsNewestShown state (number_of store.store) octets → IsWholeJournal octets
+  pub recovered : IsRecovered state (entries_of store)
+  pub newest : (((octets : List ℕ) × IsNewestShown state (number_of store.store) octets))
+      ⊎ (ShowsNoJournal state × (number_of store.store ≡ 1))
 
 -- what becomes of the sets where an entry is added: a new one was received, and waits
 abbrev pub with_added : Sets → Entry → Added → Sets

@@ -1,11 +1,11 @@
 -- Entries are brought into memory.
-use Rattle.std.specs.Prelude.{◌≡◌, ◌↔◌, ◌⊎◌, ℕ, List}
+use Rattle.std.specs.Prelude.{◌≡◌, ◌↔◌, ◌⊎◌, ℕ, ◌<◌, ◌^◌, List, Some}
 use Rattle.disk.specs.States.{State}
 use Rattle.archive_text.specs.Entries.{Entry, Has}
 use Rattle.archive_text.specs.Text.{BeginsWithEntry}
 use Rattle.archive_text.specs.declared.limits.TheConstants.{ENTRY_MAX}
-use Rattle.record_store.specs.Holdings.{IsWholeJournal, JournalHas}
-use Rattle.record_store.specs.Shown.{IsNewestShown, ShowsNoJournal}
+use Rattle.record_store.specs.Holdings.{IsWholeJournal}
+use Rattle.record_store.specs.Shown.{JournalsHave, journal_shown}
 use Rattle.durable_store.specs.declared.fault.OpenFault.{OpenFault}
 use Rattle.durable_store.specs.declared.fault.OpenFault.TheVariants.{Store, Damaged, Memory}
 
@@ -27,9 +27,8 @@ Adds old new P = (e : Entry) → Has new e ↔ (Has old e ⊎ P e)
 abbrev pub AddsFirst : List ℕ → List ℕ → List Entry → List Entry → Type 0
 AddsFirst text behind old new = (e : Entry) × BeginsWithEntry ENTRY_MAX text e behind × Adds old new (λ x. e ≡ x)
 
--- entries are those of the newest journal that is shown, which is whole; none where none is shown
+-- entries are those of the journals that are shown, and each of these is whole
 pub record IsRecovered (state : State) (es : List Entry) : Type 0 where
-  pub whole : (number : ℕ) (octets : List ℕ) → IsNewestShown state number octets → IsWholeJournal octets
-  pub has : (number : ℕ) (octets : List ℕ) → IsNewestShown state number octets
-      → (e : Entry) → Has es e ↔ JournalHas octets e
-  pub none : ShowsNoJournal state → (e : Entry) → ¬ (Has es e)
+  pub whole : (number : ℕ) (octets : List ℕ) → number < 2 ^ 64 → journal_shown state number ≡ Some octets
+      → IsWholeJournal octets
+  pub has : (e : Entry) → Has es e ↔ JournalsHave state e

@@ -8,10 +8,9 @@ use Rattle.archive_digest.specs.declared.period.Period.TheVariants.{Day}
 use Rattle.archive_text.specs.Entries.{Entry}
 use Rattle.archive_text.specs.Text.{IsArchive, text_of}
 use Rattle.archive_text.specs.declared.limits.TheConstants.{ENTRY_MAX}
-use Rattle.record_store.specs.Names.{journal_name}
+use Rattle.record_store.specs.Crashes.{HeldApart}
 use Rattle.record_store.specs.Segments.{Drafts}
 use Rattle.record_store.specs.Stores.{AreAmong, IsWhole, Sets, Stands as JournalStands}
-use Rattle.record_store.specs.Turns.{HeldApart}
 use Rattle.record_store.specs.declared.segment.SegmentDraft.{SegmentDraft}
 use Rattle.record_store.specs.declared.store.RecordStore.{RecordStore}
 use Rattle.durable_store.specs.Shares.{AreDays, GrowsBy, HasShare, IsDay, Leaves}
@@ -52,18 +51,17 @@ pub record PutsDay (tells : Type 0) (before : SegmentDraft) (old : State) (after
   pub ends : Leaves day rest
   pub drafts : tells → Drafts before old [] → Drafts after new (text_of (first ∷ front))
 
--- whatever a file that is no journal held before it holds, if all these entries are an archive of what was received
+-- whatever segments held before they hold, if all these entries are an archive of what was received
 abbrev pub StillHolds : Type 0 → State → State → List Entry → Type 0
 StillHolds tells old new these = tells → IsSound old → (received : List Entry) → IsArchive ENTRY_MAX these
-    → AreAmong these received → (name : List ℕ) (others : List Entry) → HeldApart old name others
-    → HeldApart new name others
+    → AreAmong these received → (others : List Entry) → HeldApart old others → HeldApart new others
 
--- and these of them are held by one
+-- and these of them are held by some
 abbrev pub HoldsApart : Type 0 → State → State → List Entry → List Entry → Type 0
 HoldsApart tells old new these es = tells → IsSound old → (received : List Entry) → IsArchive ENTRY_MAX these
-    → AreAmong these received → (number : ℕ) → number < 2 ^ 64 → HeldApart new (journal_name number) es
+    → AreAmong these received → HeldApart new es
 
--- the first entries of a day, up to the rest, are held by a file that is no journal
+-- the first entries of a day, up to the rest, are held by segments
 pub record WritesDay (tells : Type 0) (old new : State) (these rest : List Entry) : Type 0 where
   pub run : List Entry
   pub is : IsDay these run rest
@@ -87,8 +85,7 @@ pub record WritesDays (tells : Type 0) (total : ℕ) (before : RecordStore) (old
   pub are : AreDays all runs rest
   pub shares : IsTrue skipped ⊎ AllByRecursion (HasShare total) runs
   pub held : tells → (sets : Sets) → IsWhole before → JournalStands before old sets → AreAmong all sets.received
-      → (number : ℕ) → number < 2 ^ 64
-      → AllByRecursion (λ run. HasShare total run → HeldApart new (journal_name number) run) runs
+      → AllByRecursion (λ run. HasShare total run → HeldApart new run) runs
 
 -- ---- the other days
 
@@ -116,7 +113,7 @@ pub record PutsMixed (tells : Type 0) (total : ℕ) (before : SegmentDraft) (old
   pub among : AreAmong mixed all
   pub drafts : tells → Drafts before old [] → Drafts after new (text_of mixed)
 
--- and are held by a file that is no journal
+-- and are held by segments
 pub record WritesMixed (tells : Type 0) (total : ℕ) (old new : State) (all : List Entry) : Type 0 where
   pub runs : List (List Entry)
   pub are : AreDays all runs []

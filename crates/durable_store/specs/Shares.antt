@@ -7,7 +7,7 @@ use Rattle.archive_digest.specs.declared.period.Period.TheVariants.{Day}
 use Rattle.archive_pages.specs.Paged.{at_most_all}
 use Rattle.archive_text.specs.Entries.{Entry}
 use Rattle.archive_text.specs.Text.{text_of}
-use Rattle.record_store.specs.Segments.{SegmentsGrow}
+use Rattle.record_store.specs.Segments.{GrowsBeside}
 
 -- so many octets are at least a 64th of all
 abbrev pub IsShare : ℕ → ℕ → Type 0
@@ -46,6 +46,6 @@ pub record CountsDay (len : ℕ) (day : List ℕ) (first : Entry) (behind rest :
 -- no more segments come than so many octets allow, each of which has at least a 64th of all
 pub record GrowsBy (total octets : ℕ) (old new : State) : Type 0 where
   pub count : ℕ
-  pub grow : SegmentsGrow count old new
+  pub grow : GrowsBeside count old new
   pub shares : count * total ≤ 64 * octets
   pub some : count ≤ octets

@@ -1,11 +1,10 @@
 //! A checkpoint.
-ghost use Rattle.std.specs.Prelude.{◌≡◌, ◌↔◌, [], IfErr, IsErr, None, OnErr, OnOk};
+ghost use Rattle.std.specs.Prelude.{◌≡◌, ◌↔◌, [], IfErr, IsErr, OnErr, OnOk};
 ghost use Rattle.archive_pages.specs.Paged.{entries_in};
 ghost use Rattle.record_store.specs.Stores.{AreAmong, IsBroken as IsStoreBroken, Sets};
 ghost use Rattle.record_store.specs.Segments.{SegmentsGrow, SegmentsStay};
-ghost use Rattle.record_store.specs.Shown.{journal_shown};
 ghost use Rattle.record_store.specs.Stores.{Stands as JournalStands, number_of};
-ghost use Rattle.record_store.specs.Turns.{turned};
+ghost use Rattle.record_store.specs.Turns.{ShedsOldest, turned};
 ghost use Rattle.durable_store.specs.Causes.{IsCheckpointCause, StandsAtAll, StandsWith};
 ghost use Rattle.durable_store.specs.Durables.{IsBroken, Stands, entries_of, journal_store};
 
@@ -34,8 +33,9 @@ fn write_out<D: Disk>(
         → JournalStands store.new (D.state disk.new) sets) }
     ensures segments { D.tells disk.new → StandsWith store.old (D.state disk.old) (entries_in set.now)
         → SegmentsGrow 65 (D.state disk.old) (D.state disk.new) }
-    ensures removed { OnOk result (D.tells disk.new
-        → journal_shown (D.state disk.new) (number_of store.old) ≡ None) }
+    ensures sheds { OnOk result (D.tells disk.new
+        → StandsWith store.old (D.state disk.old) (entries_in set.now)
+        → ShedsOldest 64 (D.state disk.old) (D.state disk.new) (number_of store.old)) }
     ensures whole { OnOk result (¬ (IsStoreBroken store.new)) }
     ensures told { D.tells disk.new → D.tells disk.old }
     ensures cause { IfErr result (IsCheckpointCause (D.tells disk.new) (D.has_failed disk.new)
@@ -50,8 +50,8 @@ fn write_out<D: Disk>(
 }
 
 impl DurableStore {
-    /// Writes what came since the last checkpoint as segments, and begins a new journal; the old one
-    /// is removed only once these are on the disk. A day gets a segment of its own where it has at
+    /// Writes what is in memory as segments, and begins a new journal; those before it, the oldest
+    /// first and at most 64, are removed only once these are on the disk. A day gets a segment of its own where it has at
     /// least a 64th of the octets; the others share one, so that at most 65 segments come whatever
     /// times the records have. The set in memory is empty then, and all that was received is
     /// committed. A crash at any moment leaves what is
@@ -79,9 +79,9 @@ impl DurableStore {
         ensures few { D.tells disk.new → StandsAtAll self.old (D.state disk.old)
             → SegmentsGrow 65 (D.state disk.old) (D.state disk.new) }
 
-        // the journal that was there is removed
-        ensures removed { OnOk result (D.tells disk.new
-            → journal_shown (D.state disk.new) (number_of (journal_store self.old)) ≡ None) }
+        // the oldest of the journals that were there are removed
+        ensures sheds { OnOk result (D.tells disk.new → StandsAtAll self.old (D.state disk.old)
+            → ShedsOldest 64 (D.state disk.old) (D.state disk.new) (number_of (journal_store self.old))) }
 
         ensures empty { OnOk result (entries_of self.new ≡ []) }
         ensures same { OnErr result (entries_of self.new ≡ entries_of self.old) }

@@ -6,7 +6,7 @@ use thiserror::Error;
 /// Why a store was not opened.
 #[derive(Clone, Copy, Debug, PartialEq, Eq, Error)]
 pub enum OpenFault {
-    /// The journal of the store, or its folder, failed.
+    /// A journal of the store, or its folder, failed.
     #[error("{0}")]
     Store(StoreFault),
     /// The journal with this number is damaged; nothing was changed.
@@ -25,6 +25,17 @@ impl From<StoreFault> for OpenFault {
 
     fn from(fault: StoreFault) -> OpenFault {
         OpenFault::Store(fault)
+    }
+}
+
+impl From<AllocError> for OpenFault {
+    ghost use Rattle.std.specs.Prelude.{◌≡◌};
+    ghost use Rattle.durable_store.specs.declared.fault.OpenFault.TheVariants.{Memory};
+
+    ghost from_gives = { λ _ fault. fault ≡ Memory };
+
+    fn from(_: AllocError) -> OpenFault {
+        OpenFault::Memory
     }
 }
 

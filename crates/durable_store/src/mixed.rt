@@ -5,11 +5,11 @@ ghost use Rattle.archive_text.specs.EntryViews.{entry_of};
 ghost use Rattle.archive_text.specs.Text.{IsArchive};
 ghost use Rattle.archive_text.specs.declared.limits.TheConstants.{ENTRY_MAX};
 ghost use Rattle.journal.specs.Journals.{IsSound};
-ghost use Rattle.record_store.specs.Names.{draft_name as draft_octets, journal_name};
-ghost use Rattle.record_store.specs.Segments.{Drafts, SegmentsGrow, draft_of};
+ghost use Rattle.record_store.specs.Crashes.{HeldApart};
+ghost use Rattle.record_store.specs.Names.{draft_name as draft_octets};
+ghost use Rattle.record_store.specs.Segments.{Drafts, GrowsBeside, draft_of};
 ghost use Rattle.record_store.specs.Stores.{AreAmong, IsBroken as IsStoreBroken, IsWhole, Sets};
 ghost use Rattle.record_store.specs.Stores.{Stands as JournalStands, number_of};
-ghost use Rattle.record_store.specs.Turns.{HeldApart};
 ghost use Rattle.durable_store.specs.Causes.{IsWritingCause, StandsWith};
 ghost use Rattle.durable_store.specs.Segments.{KeepsAside, MixesDay, PutsMixed, WritesMixed};
 
@@ -98,7 +98,7 @@ fn write_mixed<D: Disk>(
         → AreAmong (entries_in set.now) sets.received
         → JournalStands store.new (D.state disk.new) sets }
     ensures segments { D.tells disk.new → IsSound (D.state disk.old)
-        → SegmentsGrow 1 (D.state disk.old) (D.state disk.new) }
+        → GrowsBeside 1 (D.state disk.old) (D.state disk.new) }
 
     ensures number { number_of store.new ≡ number_of store.old }
     ensures goes_on { OnOk result (IsStoreBroken store.new → IsStoreBroken store.old) }
@@ -121,8 +121,7 @@ fn write_both<D: Disk>(
 ) -> Result<(), CheckpointFault>
     ensures held { OnOk result (D.tells disk.new → (sets : Sets) → IsWhole store.old
         → JournalStands store.old (D.state disk.old) sets → AreAmong (entries_in set.now) sets.received
-        → (number : ℕ) → number < 2 ^ 64
-        → HeldApart (D.state disk.new) (journal_name number) (entries_in set.now)) }
+        → HeldApart (D.state disk.new) (entries_in set.now)) }
 
     // whatever the result is: so at every moment
     ensures stands { D.tells disk.new → (sets : Sets) → IsWhole store.old
@@ -130,7 +129,7 @@ fn write_both<D: Disk>(
         → JournalStands store.new (D.state disk.new) sets }
     ensures segments { D.tells disk.new → IsWhole store.old
         → StandsWith store.old (D.state disk.old) (entries_in set.now)
-        → SegmentsGrow 65 (D.state disk.old) (D.state disk.new) }
+        → GrowsBeside 65 (D.state disk.old) (D.state disk.new) }
 
     ensures number { number_of store.new ≡ number_of store.old }
     ensures goes_on { OnOk result (IsStoreBroken store.new → IsStoreBroken store.old) }
@@ -169,8 +168,7 @@ pub(crate) fn write_segments<D: Disk>(
 ) -> Result<(), CheckpointFault>
     ensures held { OnOk result (D.tells disk.new → (sets : Sets) → IsWhole store.old
         → JournalStands store.old (D.state disk.old) sets → AreAmong (entries_in set.now) sets.received
-        → (number : ℕ) → number < 2 ^ 64
-        → HeldApart (D.state disk.new) (journal_name number) (entries_in set.now)) }
+        → HeldApart (D.state disk.new) (entries_in set.now)) }
 
     // whatever the result is: so at every moment
     ensures stands { D.tells disk.new → (sets : Sets) → IsWhole store.old
@@ -178,7 +176,7 @@ pub(crate) fn write_segments<D: Disk>(
         → JournalStands store.new (D.state disk.new) sets }
     ensures segments { D.tells disk.new → IsWhole store.old
         → StandsWith store.old (D.state disk.old) (entries_in set.now)
-        → SegmentsGrow 65 (D.state disk.old) (D.state disk.new) }
+        → GrowsBeside 65 (D.state disk.old) (D.state disk.new) }
 
     ensures number { number_of store.new ≡ number_of store.old }
     ensures goes_on { OnOk result (IsStoreBroken store.new → IsStoreBroken store.old) }

@@ -1,5 +1,6 @@
-//! The entries of a journal's batches are brought into memory.
-ghost use Rattle.std.specs.Prelude.{◌≡◌, ◌≤◌, ◌++◌, ◌↔◌, IfErr, IfNone, IfOk, IfSome, IsTrue, List, OnOk, length, ℕ};
+//! The entries of the journals' batches are brought into memory.
+ghost use Rattle.std.specs.Prelude.{◌≡◌, ◌≤◌, ◌<◌, ◌^◌, ◌++◌, ◌↔◌, IfErr, IfNone, IfOk, IfSome, IsTrue, List, OnOk};
+ghost use Rattle.std.specs.Prelude.{Some, length, ℕ};
 ghost use Rattle.disk.specs.Calls.{IsUnchanged};
 ghost use Rattle.journal.specs.Batches.{IsBody, IsClosed, open_batch};
 ghost use Rattle.journal.specs.Journals.{EndsAt, IsSound};
@@ -7,19 +8,19 @@ ghost use Rattle.archive_pages.specs.Paged.{entries_in};
 ghost use Rattle.archive_text.specs.Entries.{IsEntry};
 ghost use Rattle.archive_text.specs.EntryViews.{entry_of};
 ghost use Rattle.record_store.specs.Holdings.{BatchHas, IsReadable, IsSealedBatch, IsWholeJournal, JournalHas};
-ghost use Rattle.record_store.specs.Shown.{IsNewestShown};
-ghost use Rattle.durable_store.specs.Asides.{IsRead};
-ghost use Rattle.durable_store.specs.Causes.{IsOpeningCause};
+ghost use Rattle.record_store.specs.Shown.{journal_shown};
+ghost use Rattle.durable_store.specs.Asides.{AddsJournal, AreTails};
+ghost use Rattle.durable_store.specs.Causes.{IsOpeningCause, IsReadingCause};
 ghost use Rattle.durable_store.specs.Recovery.{Adds, AddsFirst, BeginsWithSome, IsRecovered};
 ghost use Rattle.durable_store.specs.Recovery.{Refutes};
 
 use crate::fault::OpenFault;
-use crate::read_journal::ReadJournal;
+use crate::tail::Tail;
 use archive_pages::PagedArchive;
 use archive_text::{AddFault, ArchiveFault, ENTRY_MAX, EntryView, Store, read_entry};
 use disk::Disk;
 use journal::batch_len;
-use record_store::{JournalDamage, has_entry, hides_batches, newest_journal, seals};
+use record_store::{JournalDamage, has_entry, hides_batches, journals, read_journal, seals};
 use std::alloc::Global;
 use syslog_grammar::view;
 
@@ -150,43 +151,68 @@ fn add_batches(
     Ok(end)
 }
 
-/// Brings the entries of the newest journal that a read shows into memory, and gives the journal. It
-/// changes nothing.
+// Adds the entries of the journal with a number, and what is behind its batches.
+fn add_journal<D: Disk>(
+    alloc: Global,
+    disk: &mut D,
+    set: &mut PagedArchive,
+    tails: &mut Vec<Tail>,
+    number: u64,
+) -> Result<(), OpenFault>
+    ensures adds { OnOk result (D.tells disk.new → IsSound (D.state disk.old) → (octets : List ℕ)
+        → journal_shown (D.state disk.old) number ≡ Some octets
+        → AddsJournal (entries_in set.old) (entries_in set.new) tails.old.items tails.new.items number octets) }
+    ensures same { D.tells disk.new → IsUnchanged (D.state disk.old) (D.state disk.new) }
+    ensures told { D.tells disk.new → D.tells disk.old }
+    ensures cause { IfErr result (IsReadingCause (D.tells disk.new) (D.has_failed disk.new)
+        (D.state disk.old) number) }
+{
+    let octets = read_journal(alloc, disk, number)?;
+    let end = add_batches(alloc, set, &octets, number)?;
+    let (_, behind) = octets.split_at(end);
+    if behind.len() <= 1 {
+        return Ok(());
+    }
+    let octets = behind.to_vec(alloc)?;
+    match tails.push(Tail { number, octets }) {
+        Ok(()) => Ok(()),
+        Err(_) => Err(OpenFault::Memory),
+    }
+}
+
+/// Brings the entries of all journals that a read shows into memory, the oldest first, and gives what is
+/// behind their batches. It changes nothing.
 pub(crate) fn recover<D: Disk>(
     alloc: Global,
     disk: &mut D,
-) -> Result<(PagedArchive, Option<ReadJournal>), OpenFault>
+) -> Result<(PagedArchive, Vec<Tail>), OpenFault>
     ensures recovered { IfOk result (λ r. D.tells disk.new → IsSound (D.state disk.old)
         → IsRecovered (D.state disk.old) (entries_in r.0)) }
-    ensures read { IfOk result (λ r. D.tells disk.new → IsSound (D.state disk.old)
-        → IsRead (D.state disk.old) r.1) }
+    ensures tails { IfOk result (λ r. D.tells disk.new → IsSound (D.state disk.old)
+        → AreTails (D.state disk.old) r.1.items) }
     ensures same { D.tells disk.new → IsUnchanged (D.state disk.old) (D.state disk.new) }
     ensures told { D.tells disk.new → D.tells disk.old }
     ensures cause { IfErr result (IsOpeningCause (D.tells disk.new) (D.has_failed disk.new)
         (D.state disk.old)) }
 {
     let mut set = PagedArchive::new(alloc);
-    let Some((number, octets)) = newest_journal(alloc, disk)? else {
-        return Ok((set, None));
-    };
-    let end = add_batches(alloc, &mut set, &octets, number)?;
-    let journal = ReadJournal {
-        number,
-        octets,
-        end,
-    };
-    Ok((set, Some(journal)))
+    let mut tails = Vec::new(alloc);
+    let numbers = journals(alloc, disk, u64::MAX)?;
+    for number in &numbers {
+        add_journal(alloc, disk, &mut set, &mut tails, *number)?;
+    }
+    Ok((set, tails))
 }
 
-/// Reads the newest journal whole, as an opening does, so that damage is told before anything else is
-/// done with it. It changes nothing.
+/// Reads all journals whole, as an opening does, so that damage is told before anything else is done with
+/// them. It changes nothing.
 ///
 /// # Errors
 /// Those of [`DurableStore::open`](crate::DurableStore::open).
-pub fn check_newest<D: Disk>(alloc: Global, disk: &mut D) -> Result<(), OpenFault>
+pub fn check_journals<D: Disk>(alloc: Global, disk: &mut D) -> Result<(), OpenFault>
     ensures whole { OnOk result (D.tells disk.new → IsSound (D.state disk.old)
-        → (number : ℕ) (octets : List ℕ) → IsNewestShown (D.state disk.old) number octets
-        → IsWholeJournal octets) }
+        → (number : ℕ) (octets : List ℕ) → number < 2 ^ 64
+        → journal_shown (D.state disk.old) number ≡ Some octets → IsWholeJournal octets) }
     ensures same { D.tells disk.new → IsUnchanged (D.state disk.old) (D.state disk.new) }
     ensures told { D.tells disk.new → D.tells disk.old }
     ensures cause { IfErr result (IsOpeningCause (D.tells disk.new) (D.has_failed disk.new)

@@ -10,7 +10,7 @@ ghost use Rattle.archive_text.specs.Text.{IsArchive, text_of};
 ghost use Rattle.archive_text.specs.declared.limits.TheConstants.{ENTRY_MAX};
 ghost use Rattle.journal.specs.Journals.{IsSound};
 ghost use Rattle.record_store.specs.Names.{Counts, draft_name as draft_octets};
-ghost use Rattle.record_store.specs.Segments.{Drafts, SegmentsGrow, draft_of};
+ghost use Rattle.record_store.specs.Segments.{Drafts, GrowsBeside, draft_of};
 ghost use Rattle.record_store.specs.Stores.{AreAmong, IsBroken as IsStoreBroken, IsWhole, Sets};
 ghost use Rattle.record_store.specs.Stores.{Stands as JournalStands, number_of};
 ghost use Rattle.durable_store.specs.Causes.{IsWritingCause, StandsWith};
@@ -155,7 +155,7 @@ fn write_day<D: Disk>(
         → AreAmong (entry_of first.now ∷ entries_from set.now behind) sets.received
         → JournalStands store.new (D.state disk.new) sets }
     ensures segments { D.tells disk.new → IsSound (D.state disk.old)
-        → SegmentsGrow 1 (D.state disk.old) (D.state disk.new) }
+        → GrowsBeside 1 (D.state disk.old) (D.state disk.new) }
 
     ensures number { number_of store.new ≡ number_of store.old }
     ensures goes_on { OnOk result (IsStoreBroken store.new → IsStoreBroken store.old) }

@@ -8,11 +8,11 @@ ghost use Rattle.archive_text.specs.Entries.{Entry};
 ghost use Rattle.record_store.specs.Causes.{IsCause, commit_causes, opening_causes};
 ghost use Rattle.record_store.specs.Crashes.{Keeps};
 ghost use Rattle.record_store.specs.Stores.{IsReady, Sets, all_committed, begun};
-ghost use Rattle.durable_store.specs.Asides.{SetsTailAside, aside_of};
+ghost use Rattle.durable_store.specs.Asides.{SetsTailsAside, asides_of};
 ghost use Rattle.durable_store.specs.Causes.{IsDamage, IsOpeningCause};
 ghost use Rattle.durable_store.specs.Durables.{IsBroken, Recovers, Stands, entries_of, journal_store, waiting_of};
 
-use crate::aside::{SetAside, set_tail_aside};
+use crate::aside::{SetAside, put_tails_aside};
 use crate::fault::OpenFault;
 use crate::recovery::recover;
 use archive_pages::PagedArchive;
@@ -32,22 +32,24 @@ pub struct DurableStore {
     // the journal, and the batch that waits
     pub(crate) store: RecordStore,
     // what was set aside when it was opened
-    pub(crate) aside: Option<SetAside>,
+    pub(crate) asides: Vec<SetAside>,
     // the canonical octets of the record that is added
     pub(crate) scratch: Vec<u8>,
 }
 
 impl DurableStore {
     /// Opens the store of a folder, after a restart of the machine or of the process alone. A
-    /// folder without a journal gets one. The set in memory is that of the newest journal. What is
-    /// behind the batches of that, as after a commit that was cut short, stands for nothing and is
-    /// cut off, but first set aside: it is written at the end of `damaged.journal.N` (`set_aside`
-    /// tells). The store keeps what the folder keeps: whenever a crash comes, committed ⊆ S ⊆ received. It can
-    /// say so only if no sync has failed since the machine was started.
+    /// folder without a journal gets one. The set in memory is that of all its journals, the oldest of
+    /// which are read first: the newest, and those that a checkpoint left which was stopped. What is
+    /// behind the batches of one, as after a commit that was cut short, stands for nothing and is cut
+    /// off, but first set aside: it is written at the end of `damaged.journal.N` (`set_aside` tells).
+    /// The store goes on with the newest journal, and its next checkpoints remove the others. It keeps
+    /// what the folder keeps: whenever a crash comes, committed ⊆ S ⊆ received. It can say so only if no
+    /// sync has failed since the machine was started.
     ///
     /// # Errors
     /// The disk's fault, lack of memory, or a journal that is too long or damaged. A damaged one is
-    /// told before anything is changed.
+    /// told, with its number, before anything is changed.
     pub fn open<D: Disk>(alloc: Global, disk: &mut D) -> Result<DurableStore, OpenFault>
         ensures opened { IfOk result (λ store. D.tells disk.new → IsSound (D.state disk.old)
             → (committed received : List Entry) → Keeps (D.state disk.old) committed received
@@ -55,7 +57,7 @@ impl DurableStore {
         ensures recovers { IfOk result (λ store. D.tells disk.new → IsSound (D.state disk.old)
             → Recovers store (D.state disk.old)) }
         ensures aside { IfOk result (λ store. D.tells disk.new → IsSound (D.state disk.old)
-            → SetsTailAside (D.state disk.old) (D.state disk.new) (aside_of store)) }
+            → SetsTailsAside (D.state disk.old) (D.state disk.new) (asides_of store)) }
 
         // whatever the result is: so at every moment
         ensures any_moment { D.tells disk.new → IsSound (D.state disk.old)
@@ -69,22 +71,22 @@ impl DurableStore {
         ensures cause { IfErr result (IsOpeningCause (D.tells disk.new) (D.has_failed disk.new)
             (D.state disk.old)) }
     {
-        let (set, journal) = recover(alloc, disk)?;
-        let aside = set_tail_aside(alloc, disk, journal)?;
+        let (set, tails) = recover(alloc, disk)?;
+        let asides = put_tails_aside(alloc, disk, &tails)?;
         let (store, _batches) = open(alloc, disk)?;
         Ok(DurableStore {
             set,
             store,
-            aside,
+            asides,
             scratch: Vec::new(alloc),
         })
     }
 
-    /// What was set aside when the store was opened, if anything was.
-    pub fn set_aside(&self) -> Option<SetAside>
-        ensures { result ≡ aside_of self.now }
+    /// What was set aside when the store was opened, the oldest journal first.
+    pub fn set_aside(&self) -> &[SetAside]
+        ensures { result.now ≡ asides_of self.now }
     {
-        self.aside
+        &self.asides
     }
 
     /// Commits what waits. Once it has returned `Ok`, every crash leaves its records; a crash at

@@ -130,7 +130,8 @@ module _ (old new : State) (same : (n : ℕ) → n < 2 ^ 64 → journal_shown ne
   too_long_before long = record {
     number = long.number;
     octets = long.octets;
-    newest = newest_before long.number long.octets long.newest;
+    small = long.small;
+    shown = sym (same long.number long.small) ∙ long.shown;
     long = long.long;
   }
 

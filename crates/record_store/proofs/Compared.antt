@@ -11,14 +11,14 @@ use Rattle.disk.specs.Memory.{shown_now}
 use Rattle.disk.specs.States.{Entry as DiskEntry, NameMayLeave, State, kept}
 use Rattle.journal.specs.Journals.{IsOnDisk, KeepsOrSettlesOthers, Shows, ShowsTheSame}
 use Rattle.archive_text.specs.Entries.{Entry}
-use Rattle.record_store.specs.Crashes.{Keeps}
+use Rattle.record_store.specs.Crashes.{HeldApart, Keeps}
 use Rattle.record_store.specs.Holdings.{HeldAt}
 use Rattle.record_store.specs.Keeping.{AgreeAt, AgreeFrom, AreSame, Brings, Puts, ShowsAtMost}
 use Rattle.record_store.specs.Names.{Counts, IsSegment}
 use Rattle.record_store.specs.Puts.{KeepsOrSettlesApart, LeavesOldOr, ShowsOldOr}
 use Rattle.record_store.specs.Segments.{IsSegmentOf, JournalsSettle, ShowsNoMore}
 use Rattle.record_store.specs.Stores.{AreAmong}
-use Rattle.record_store.specs.Turns.{HeldApart}
+use Rattle.record_store.proofs.Apart.{segments_less}
 use Rattle.record_store.proofs.Covering.{unchanged_keeps}
 use Rattle.record_store.proofs.Drafted.{journals_settle, segment_keeps, segment_no_more, segment_still}
 use Rattle.record_store.proofs.Leavings.{shown_file}
@@ -187,11 +187,10 @@ module _ (old new : State) (draft name day text : List ℕ) (es : List Entry) (s
   brought_journals (inl same) n small = inl (same.entries _)
   brought_journals (inr puts) n small = journals_settle old new draft name day segment apart puts.others n small
 
-  pub brought_still : Brings old new draft name text → (journal : List ℕ) (held : List Entry)
-      → HeldApart old journal held → HeldApart new journal held
-  brought_still (inl same) journal held holds files may e has =
-      holds files (λ other counts. subst (λ (x : DiskEntry). NameMayLeave x (files other)) (same.entries other)
-      (may other counts)) e has
-  brought_still (inr puts) journal held holds files may e has =
+  pub brought_still : Brings old new draft name text → (held : List Entry) → HeldApart old held → HeldApart new held
+  brought_still (inl same) held holds e has =
+      segments_less old new (λ period other other_segment octets may.
+      subst (λ (x : DiskEntry). NameMayLeave x octets) (same.entries other) may) e (holds e has)
+  brought_still (inr puts) held holds e has =
       segment_still old new draft name day text es segment is (no_more old day name text es segment is puts.shown) apart
-      puts.leaves puts.others journal held holds files may e has
+      puts.leaves puts.others held holds e has

@@ -1,5 +1,5 @@
 -- An empty journal is made.
-use Rattle.std.proofs.Common.{◌≡◌, inl, ⊎_elim, ℕ, ◌<◌, ◌^◌, List, [], refl, sym, ap, subst, ◌∙◌, arith}
+use Rattle.std.proofs.Common.{◌≡◌, ◌≢◌, inl, ⊎_elim, ℕ, ◌<◌, ◌^◌, List, [], refl, sym, ap, subst, ◌∙◌, arith}
 use Rattle.std.specs.Prelude.{Option, None, Some, IsSomeAnd}
 use Rattle.disk.specs.Files.{File}
 use Rattle.disk.specs.Memory.{shown_now}
@@ -11,15 +11,17 @@ use Rattle.archive_text.specs.Entries.{Entry}
 use Rattle.record_store.specs.Crashes.{Keeps}
 use Rattle.record_store.specs.Holdings.{AreEntries}
 use Rattle.record_store.specs.Names.{IsJournal, journal_name}
-use Rattle.record_store.specs.Shown.{NoneShownAbove, ShowsNoJournal, ShowsWithin, journal_shown}
+use Rattle.record_store.specs.Shown.{JournalsWithin, NoneShownAbove, ShowsNoJournal, ShowsWithin}
+use Rattle.record_store.specs.Shown.{journal_shown}
 use Rattle.record_store.specs.Stores.{AreAmong, IsReady, Stands, begun}
 use Rattle.record_store.specs.declared.store.RecordStore.{RecordStore}
+use Rattle.record_store.proofs.Apart.{begun_journals, newest_journals, segments_beside, within_then}
 use Rattle.record_store.proofs.Batches.{journal_holds, none_wait}
 use Rattle.record_store.proofs.Covering.{CoveredAt, Covers, covered_as_before, covers_keeps, one_covers, others_settled}
 use Rattle.record_store.proofs.Folders.{HoldsAt, nothing}
 use Rattle.record_store.proofs.Leavings.{none_kept, none_shown, settled_shown}
-use Rattle.record_store.proofs.Named.{numbers_apart}
-use Rattle.record_store.proofs.Showing.{begun_within, ready_shows}
+use Rattle.record_store.proofs.Named.{numbers_apart, other_number}
+use Rattle.record_store.proofs.Showing.{begun_within, ready_newest, ready_shows}
 
 module _ (old new : State) (number : ℕ) (name : List ℕ) (small : number < 2 ^ 64) (named : name ≡ journal_name number)
     (none : journal_shown old number ≡ None) (others : KeepsOrSettlesOthers old new name) where
@@ -81,19 +83,38 @@ module _ (old new : State) (number : ℕ) (name : List ℕ) (small : number < 2 
         ∙ none_kept (old.entries (journal_name n)) (above n over n_small);
   }
 
+  -- what is shown in the others is as it was
+  others_shown : (n : ℕ) → n < 2 ^ 64 → n ≢ number → journal_shown new n ≡ journal_shown old n
+  others_shown n n_small apart =
+      settled_shown (old.entries (journal_name n)) (new.entries (journal_name n))
+      (others (journal_name n) (λ is. apart (other_number n number n_small small (is ∙ named))))
+
+  pub create_older : (since : List Entry) → ShowsNoBatch new name → JournalsWithin old since → JournalsWithin new since
+  create_older since no_batch within =
+      within_then old new since
+      (begun_journals old new number small (subst (λ (n : List ℕ). ShowsNoBatch new n) named no_batch)
+      (λ other apart. settled_shown (old.entries other) (new.entries other)
+      (others other (λ is. apart (is ∙ named)))))
+      (segments_beside old new name begun_is_journal others) within
+
   pub create_stands : (store : RecordStore) (committed received since : List Entry) → LeavesNoBatch old new name
-      → Keeps old committed received → AreAmong since received → NoneShownAbove old number → store.number ≡ number
+      → Keeps old committed received → AreAmong since received → JournalsWithin old since → NoneShownAbove old number
+      → store.number ≡ number
       → store.batch.items ≡ [] → store.journal.name ≡ name → SettlesOthers old new name
       → JournalStands store.journal new [] → Stands store new (begun committed received since)
-  create_stands store committed received since leaves keeps among above number_is empty name_is settles journal =
+  create_stands store committed received since leaves keeps among older above number_is empty name_is settles journal =
       let ready = create_ready store since above number_is name_is settles journal in
+      let shows = ready_shows store new since ready in
+      let none = subst (NoneShownAbove new) number_is (ready_newest store new since ready).none_above in
       record {
         keeps = create_keeps leaves committed received keeps;
         batch = subst (AreEntries []) (sym empty) none_wait;
         waits = λ e has. absurd has;
         within = among;
         ready = λ whole. ready;
-        shows = λ sound. ready_shows store new since ready;
+        shows = λ sound. shows;
+        older = λ sound. newest_journals old new number since none others_shown
+            (segments_beside old new name begun_is_journal others) shows older;
       }
 
 -- ---- a folder that shows no journal

@@ -1,5 +1,5 @@
 -- A segment is brought to the disk.
-use Rattle.std.proofs.Common.{◌≡◌, ◌≢◌, inl, inr, ⊎_elim, ℕ, ◌<◌, ◌^◌, Bool, if◌then◌else◌, List, refl, sym, ap, subst, ◌∙◌}
+use Rattle.std.proofs.Common.{◌≡◌, ◌≢◌, inl, inr, ⊎_elim, ℕ, ◌<◌, ◌^◌, Bool, if◌then◌else◌, List, [], ◌∷◌, refl, sym, ap, subst, ◌∙◌}
 use Rattle.std.specs.Prelude.{Option, Some, false}
 use Rattle.disk.specs.Calls.{ChangesFile, FailsAt, Loses}
 use Rattle.disk.specs.Files.{File, settled}
@@ -8,15 +8,15 @@ use Rattle.disk.specs.States.{Entry as DiskEntry, NameMayLeave, State, kept}
 use Rattle.disk.specs.declared.fault.DiskFault.{DiskFault}
 use Rattle.journal.specs.Journals.{IsOnDisk, IsSound, KeepsOthers, Shows}
 use Rattle.archive_text.specs.Entries.{Entry, Has}
-use Rattle.record_store.specs.Crashes.{Keeps}
+use Rattle.record_store.specs.Crashes.{HeldApart, InSegment, Keeps}
 use Rattle.record_store.specs.Holdings.{AreEntries, HeldAt}
 use Rattle.record_store.specs.Names.{Counts, IsSegment, journal_name}
 use Rattle.record_store.specs.Shown.{journal_shown}
 use Rattle.record_store.specs.Puts.{KeepsOrSettlesApart, LeavesOldOr}
 use Rattle.record_store.specs.Segments.{HoldsNoMore, IsSegmentOf, JournalsSettle, ShowsNoMore}
 use Rattle.record_store.specs.Stores.{AreAmong, IsReady, Sets, Stands}
-use Rattle.record_store.specs.Turns.{HeldApart}
 use Rattle.record_store.specs.declared.store.RecordStore.{RecordStore}
+use Rattle.record_store.proofs.Apart.{same_journals, segments_covered, segments_less, within_then}
 use Rattle.record_store.proofs.Covering.{CoveredAt, OthersLeaveLess, covered_as_before, covers_keeps, less_covers}
 use Rattle.record_store.proofs.Covering.{one_covers}
 use Rattle.record_store.proofs.Batches.{one_list}
@@ -24,7 +24,6 @@ use Rattle.record_store.proofs.Leavings.{only_is, settled_may, settled_shown, sh
 use Rattle.record_store.proofs.Named.{not_both}
 use Rattle.record_store.proofs.Showing.{same_within}
 use Rattle.record_store.proofs.Standing.{ready_as}
-use Rattle.record_store.proofs.Successions.{one_apart}
 
 -- the draft is on the disk
 pub draft_synced : (old new : State) (name : List ℕ) (file : File) → Shows old name file
@@ -76,16 +75,15 @@ module _ (name day text : List ℕ) (es : List Entry) (segment : IsSegment day n
       (record { entries = has.archive.entries; fits = has.archive.fits; text_is = has.text_is })
       (record { entries = is.archive.entries; fits = is.archive.fits; text_is = is.text_is })) has.has
 
-  pub segment_held : (new : State) (number : ℕ) → number < 2 ^ 64 → IsOnDisk new name text
-      → HeldApart new (journal_name number) es
-  segment_held new number small on_disk files may e has = (
-    name,
-    λ same. not_both day name (record { number = number; small = small; name_is = same }) segment,
-    subst (λ (o : Option (List ℕ)). HeldAt name o e)
-        (sym (only_is text (files name) (subst (λ (x : DiskEntry). NameMayLeave x (files name)) on_disk.entry
-        (may name (inr (day, segment))))))
-        (segment_has e has),
-  )
+  pub segment_held : (new : State) → IsOnDisk new name text → HeldApart new es
+  segment_held new on_disk e has = record {
+    day = day;
+    name = name;
+    segment = segment;
+    holds = λ octets may. subst (λ (o : Option (List ℕ)). HeldAt name o e)
+        (sym (only_is text octets (subst (λ (x : DiskEntry). NameMayLeave x octets) on_disk.entry may)))
+        (segment_has e has);
+  }
 
 -- what is held whatever a crash leaves is so of what is shown
 pub shows_no_more : (state : State) (name : List ℕ) (es : List Entry) → HoldsNoMore state name es
@@ -132,11 +130,16 @@ name_apart draft day name segment apart is = apart (inr (day, subst (IsSegment d
 
 -- ---- a store stands on beside a segment
 
+one_by_one : (old new : State) → ((es : List Entry) → HeldApart old es → HeldApart new es) → (e : Entry)
+    → InSegment old e → InSegment new e
+one_by_one old new still e held =
+    still (e ∷ []) (λ x has. ⊎_elim (λ is. subst (InSegment old) is held) (λ none. absurd none) has) e (inl refl)
+
 journal_counts : (n : ℕ) → n < 2 ^ 64 → Counts (journal_name n)
 journal_counts n small = inl (record { number = n; small = small; name_is = refl })
 
 module _ (old new : State) (store after : RecordStore) (sets : Sets) (stands : Stands store old sets)
-    (settles : JournalsSettle old new)
+    (settles : JournalsSettle old new) (still : (es : List Entry) → HeldApart old es → HeldApart new es)
     (keeps : Keeps new sets.committed sets.received) (same_batch : after.batch.items ≡ store.batch.items)
     (same_journal : after.journal ≡ store.journal) (same_number : after.number ≡ store.number) where
   beside_shows : (n : ℕ) → n < 2 ^ 64 → journal_shown new n ≡ journal_shown old n
@@ -176,7 +179,9 @@ module _ (old new : State) (store after : RecordStore) (sets : Sets) (stands : S
         let before = whole not_broken in
         ready_as store after new sets.since same_journal same_number
         (beside_ready before.1 (stands.ready before.0));
-    shows = λ still. same_within old new sets.since beside_shows (stands.shows (sound still));
+    shows = λ now. same_within old new sets.since beside_shows (stands.shows (sound now));
+    older = λ now. within_then old new sets.since (same_journals old new beside_shows) (one_by_one old new still)
+        (stands.older (sound now));
   }
 
 -- only the draft's file changes
@@ -185,6 +190,9 @@ pub aside_stands : (old new : State) (draft : List ℕ) → KeepsOthers old new 
 aside_stands old new draft others apart lost store sets stands =
     beside_stands old new store store sets stands
     (λ n small. inl (others (journal_name n) (λ is. apart (subst Counts is (journal_counts n small)))))
+    (λ es held e has. segments_less old new (λ day name segment octets may.
+    subst (λ (x : DiskEntry). NameMayLeave x octets)
+    (others name (λ is. apart (subst Counts is (inr (day, segment))))) may) e (held e has))
     (covers_keeps old new (λ e. ⊥)
     (less_covers old new (λ e. ⊥)
     (λ name counts octets may. subst (λ (e : DiskEntry). NameMayLeave e octets)
@@ -204,9 +212,8 @@ journals_settle old new draft name day segment apart others n small =
 module _ (old new : State) (draft name day text : List ℕ) (es : List Entry) (segment : IsSegment day name)
     (is : IsSegmentOf day text es) (no_more : ShowsNoMore old name es) (apart : ¬ (Counts draft))
     (leaves : LeavesOldOr old new name text) (others : KeepsOrSettlesApart old new draft name) where
-  pub segment_still : (journal : List ℕ) (held : List Entry) → HeldApart old journal held
-      → HeldApart new journal held
-  segment_still journal held holds =
-      one_apart old new name (λ e. Has es e) (inr (day, segment))
+  pub segment_still : (held : List Entry) → HeldApart old held → HeldApart new held
+  segment_still held holds =
+      segments_covered old new name (λ e. Has es e)
       (others_less old new draft name day text es segment is no_more apart leaves others)
-      (segment_at old new draft name day text es segment is no_more apart leaves others) journal held holds
+      (segment_at old new draft name day text es segment is no_more apart leaves others) held holds

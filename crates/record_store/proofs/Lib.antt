@@ -1,4 +1,5 @@
 pub mod Anew
+pub mod Apart
 pub mod Asides
 pub mod Batches
 pub mod Causing
@@ -16,6 +17,7 @@ pub mod Naming
 pub mod Newest
 pub mod Newly
 pub mod Numbered
+pub mod Numbers
 pub mod Opened
 pub mod Placed
 pub mod Readings

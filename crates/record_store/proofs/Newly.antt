@@ -68,7 +68,7 @@ module _ (old new : State) (same : IsUnchanged old new) where
   too_long_still long = record {
     number = long.number;
     octets = long.octets;
-    newest = newest_on new old long.number long.octets (λ n small. sym (unchanged_shown old new same n small))
-        long.newest;
+    small = long.small;
+    shown = sym (unchanged_shown old new same long.number long.small) ∙ long.shown;
     long = long.long;
   }

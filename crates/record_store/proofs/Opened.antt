@@ -1,10 +1,11 @@
 -- A journal that a read shows is brought to the disk and opened.
-use Rattle.std.proofs.Common.{◌≡◌, ◌⊎◌, inl, inr, ⊎_elim, ℕ, ◌<◌, ◌^◌, List, [], refl, sym, ap, subst, ◌∙◌}
+use Rattle.std.proofs.Common.{◌≡◌, ◌⊎◌, inl, inr, ⊎_elim, ℕ, ◌<◌, ◌^◌, List, [], ◌∷◌, ◌++◌, refl, sym, ap, subst, ◌∙◌}
 use Rattle.std.specs.Prelude.{Option, None, Some, IsSomeAnd}
 use Rattle.disk.specs.Files.{File}
 use Rattle.disk.specs.Memory.{shown_now}
 use Rattle.disk.specs.States.{Entry as DiskEntry, NameMayLeave, State}
-use Rattle.journal.specs.Batches.{HasBatches}
+use Rattle.journal.specs.Batches.{HasBatches, batches_text}
+use Rattle.journal.proofs.Readings.{one_reading}
 use Rattle.journal.specs.declared.journal.Journal.{Journal}
 use Rattle.journal.specs.Journals.{IsOnDisk, IsSound, KeepsOrSettlesOthers, KeepsOthers, LeavesThese, OpensOn}
 use Rattle.journal.specs.Journals.{SettlesOthers, Shows, ShowsTheSame}
@@ -13,9 +14,10 @@ use Rattle.record_store.specs.Crashes.{Keeps}
 use Rattle.record_store.specs.Holdings.{BatchesHave, HeldAt, AreEntries, JournalHas}
 use Rattle.record_store.specs.Names.{IsJournal, journal_name}
 use Rattle.record_store.specs.Shown.{GivesNewest, GivesShown, IsNewestShown, ShowsTheBatches}
-use Rattle.record_store.specs.Shown.{ShowsWithin}
+use Rattle.record_store.specs.Shown.{JournalsHave, JournalsWithin, ShowsWithin, journal_shown}
 use Rattle.record_store.specs.Stores.{AreAmong, IsReady, Stands, begun}
 use Rattle.record_store.specs.declared.store.RecordStore.{RecordStore}
+use Rattle.record_store.proofs.Apart.{batches_journals, segments_beside, within_then}
 use Rattle.record_store.proofs.Batches.{held_in_journal, journal_holds, none_wait, nothing_has, text_has}
 use Rattle.record_store.proofs.Covering.{Covers, covered_as_before, covers_keeps, one_covers, others_same}
 use Rattle.record_store.proofs.Covering.{others_settled}
@@ -110,6 +112,17 @@ module _ (old new : State) (name octets : List ℕ) (on_disk : IsOnDisk old name
         (left.0, left.1, subst (HasBatches left.0) left.2.2 left.2.1);
   }
 
+-- it is cut behind its batches
+pub cut_shown : (new : State) (number : ℕ) (name octets : List ℕ) (bodies : List (List ℕ)) → HasBatches octets bodies
+    → (r : Journal × List ℕ) → OpensOn r.0 new octets r.1 → name ≡ journal_name number → r.0.name ≡ name
+    → (gate : ℕ) × (journal_shown new number ≡ Some (batches_text bodies ++ gate ∷ []))
+cut_shown new number name octets bodies has r opens named same = (
+  opens.stands.gate,
+  ap (λ (n : List ℕ). shown_now (new.entries n)) (sym named ∙ sym same) ∙ ap shown_now opens.stands.entry
+      ∙ ap (λ (l : List (List ℕ)). Some (batches_text l ++ opens.stands.gate ∷ []))
+      (one_reading octets opens.bodies bodies opens.has has),
+)
+
 -- ---- the store of the newest journal
 
 module _ (old new : State) (number : ℕ) (octets : List ℕ) (newest : IsNewestShown old number octets) (name : List ℕ)
@@ -120,11 +133,19 @@ module _ (old new : State) (number : ℕ) (octets : List ℕ) (newest : IsNewest
   pub newest_shown : shown_now (old.entries name) ≡ Some octets
   newest_shown = ap (λ (n : List ℕ). shown_now (old.entries n)) named ∙ newest.shown
 
+  pub opened_older : (since : List Entry) → KeepsOrSettlesOthers old new name → ShowsTheBatches old new name
+      → JournalsWithin old since → JournalsWithin new since
+  opened_older since others same =
+      within_then old new since
+      (batches_journals old new number octets newest.small newest.shown
+      (subst (λ (n : List ℕ). ShowsTheBatches old new n) named same))
+      (segments_beside old new name newest_is_journal others)
+
   pub opened_stands : (store : RecordStore) (committed received since : List Entry) (text : List ℕ)
-      → Keeps new committed received → AreAmong since received → store.number ≡ number → store.journal.name ≡ name
+      → Keeps new committed received → AreAmong since received → JournalsWithin new since → store.number ≡ number → store.journal.name ≡ name
       → store.batch.items ≡ [] → SettlesOthers old new name → OpensOn store.journal new octets text
       → ((e : Entry) → JournalHas text e → Has since e) → Stands store new (begun committed received since)
-  opened_stands store committed received since text keeps among number_is same empty settles opens are =
+  opened_stands store committed received since text keeps among older number_is same empty settles opens are =
       let ready : IsReady store new since = record {
         small = subst (λ (n : ℕ). n < 2 ^ 64) (sym number_is) newest.small;
         named = same ∙ named ∙ ap journal_name (sym number_is);
@@ -147,6 +168,7 @@ module _ (old new : State) (number : ℕ) (octets : List ℕ) (newest : IsNewest
         within = among;
         ready = λ whole. ready;
         shows = λ sound. ready_shows store new since ready;
+        older = λ sound. older;
       }
 
   pub opened_gives : (journal : Journal) (text : List ℕ) → OpensOn journal new octets text
@@ -180,3 +202,26 @@ pub given_within : (state : State) (number : ℕ) (text : List ℕ) (since : Lis
 given_within state number text since e within (inl gives) has =
     within number gives.octets gives.newest e (text_given state number text e gives has)
 given_within state number text since e within (inr none) has = absurd (nothing_has text e none.2 has)
+
+-- ---- what all journals have
+
+pub journals_received : (state : State) (committed received : List Entry) (e : Entry) → Keeps state committed received
+    → JournalsHave state e → Has received e
+journals_received state committed received e keeps has =
+    keeps.nothing_forged (λ name. shown_now (state.entries name)) (λ name counts. shown_left (state.entries name)) e
+    (record {
+      name = journal_name has.number;
+      at = subst (λ (o : Option (List ℕ)). HeldAt (journal_name has.number) o e) (sym has.shown)
+          (inl (record { number = has.number; small = has.small; name_is = refl }, has.has));
+    })
+
+pub given_journals : (state : State) (number : ℕ) (text : List ℕ) (e : Entry) → GivesNewest state number text
+    → JournalHas text e → JournalsHave state e
+given_journals state number text e (inl gives) has = record {
+  number = number;
+  octets = gives.octets;
+  small = gives.newest.small;
+  shown = gives.newest.shown;
+  has = text_given state number text e gives has;
+}
+given_journals state number text e (inr none) has = absurd (nothing_has text e none.2 has)

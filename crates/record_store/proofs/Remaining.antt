@@ -1,9 +1,9 @@
 -- Segments that a read shows stay, and few come.
-use Rattle.std.proofs.Common.{◌≡◌, ◌≢◌, ◌⊎◌, inl, inr, ⊎_elim, ℕ, ◌+◌, ◌<◌, ◌≤◌, ◌^◌, List, [], ◌∷◌, ◌++◌, sym, ap, subst}
+use Rattle.std.proofs.Common.{◌≡◌, ◌≢◌, ◌⊎◌, inl, inr, ⊎_elim, ℕ, ◌+◌, ◌<◌, ◌≤◌, ◌^◌, List, [], ◌∷◌, ◌++◌, refl, sym, ap, subst}
 use Rattle.std.proofs.Common.{◌∙◌, arith, length-append}
 use Rattle.std.specs.Prelude.{Err, Ok, Option, Result, Some}
 use Rattle.std.specs.Option.{option_map}
-use Rattle.disk.specs.Calls.{FailsAt, IsUnchanged, RemovesFile, RenamesFile, SyncsNames}
+use Rattle.disk.specs.Calls.{FailsAt, IsUnchanged, RenamesFile, SyncsNames}
 use Rattle.disk.specs.Files.{File, settled}
 use Rattle.disk.specs.Memory.{shown_now}
 use Rattle.disk.specs.States.{State}
@@ -11,9 +11,10 @@ use Rattle.disk.specs.declared.fault.DiskFault.{DiskFault}
 use Rattle.archive_text.proofs.Members.{all_left, all_right}
 use Rattle.journal.specs.Journals.{KeepsOrSettlesOthers, Shows}
 use Rattle.record_store.specs.Keeping.{Brings}
-use Rattle.record_store.specs.Names.{Counts, IsSegment, journal_name}
+use Rattle.record_store.specs.Names.{Counts, IsJournal, IsSegment, journal_name}
 use Rattle.record_store.specs.Puts.{ShowsOldOr}
-use Rattle.record_store.specs.Segments.{SegmentsGrow, SegmentsStay}
+use Rattle.record_store.specs.Segments.{GrowsBeside, SegmentsGrow, SegmentsStay}
+use Rattle.record_store.specs.Shown.{journal_shown}
 use Rattle.record_store.proofs.Named.{not_both, same_or_apart}
 use Rattle.record_store.proofs.Placed.{settled_either}
 
@@ -78,6 +79,9 @@ none_grow a b same = record {
   others = λ period name segment apart. same period name segment;
 }
 
+pub same_grow : (a b : State) → IsUnchanged a b → SegmentsGrow 0 a b
+same_grow a b same = none_grow a b (λ period name segment. ap shown_now (same.entries name))
+
 -- ---- beside a segment that is brought, and beside journals
 
 -- every name but those of the draft and of the segment
@@ -114,6 +118,44 @@ brought_grow old new draft name text apart brings = record {
   others = λ period n segment other. brought_others old new draft name text apart brings period n segment other.0;
 }
 
+-- and the journals are as they were
+pub brought_beside : (old new : State) (draft name day text : List ℕ) → IsSegment day name → ¬ (Counts draft)
+    → Brings old new draft name text → GrowsBeside 1 old new
+brought_beside old new draft name day text segment apart brings = record {
+  grow = brought_grow old new draft name text apart brings;
+  journals = λ n small. journals brings n small;
+}
+  where
+    journal_is : (n : ℕ) → n < 2 ^ 64 → IsJournal (journal_name n)
+    journal_is n small = record { number = n; small = small; name_is = refl }
+
+    journals : Brings old new draft name text → (n : ℕ) → n < 2 ^ 64 → journal_shown new n ≡ journal_shown old n
+    journals (inl same) n small = ap shown_now (same.entries (journal_name n))
+    journals (inr puts) n small =
+        ⊎_elim (λ same. ap shown_now same) (λ on_disk. ap shown_now on_disk)
+        (puts.others (journal_name n)
+        (λ is. apart (subst Counts is (inl (journal_is n small))))
+        (λ is. not_both day name (subst IsJournal is (journal_is n small)) segment))
+
+pub beside_then : (most more : ℕ) (a b c : State) → GrowsBeside most a b → GrowsBeside more b c
+    → GrowsBeside (most + more) a c
+beside_then most more a b c one other = record {
+  grow = grow_then most more a b c one.grow other.grow;
+  journals = λ n small. other.journals n small ∙ one.journals n small;
+}
+
+pub beside_less : (most more : ℕ) (a b : State) → most ≤ more → GrowsBeside most a b → GrowsBeside more a b
+beside_less most more a b less beside =
+    record { grow = grow_less most more a b less beside.grow; journals = beside.journals }
+
+-- a read shows the same under each name that counts
+pub none_beside : (a b : State) → ((name : List ℕ) → Counts name
+    → shown_now (b.entries name) ≡ shown_now (a.entries name)) → GrowsBeside 0 a b
+none_beside a b same = record {
+  grow = none_grow a b (λ period name segment. same name (inr (period, segment)));
+  journals = λ n small. same (journal_name n) (inl (record { number = n; small = small; name_is = refl }));
+}
+
 no_journal : (period name : List ℕ) (number : ℕ) → number < 2 ^ 64 → name ≡ journal_name number
     → ¬ (IsSegment period name)
 no_journal period name number small is segment =
@@ -125,10 +167,3 @@ made_grow old new number small others =
     none_grow old new (λ period name segment.
     ⊎_elim (λ same. ap shown_now same) (λ on_disk. ap shown_now on_disk)
     (others name (λ is. no_journal period name number small is segment)))
-
-pub removed_grow : (old new : State) (number : ℕ) → number < 2 ^ 64
-    → IsUnchanged old new ⊎ RemovesFile old new (journal_name number) → SegmentsGrow 0 old new
-removed_grow old new number small (inl same) = none_grow old new (λ period name segment. ap shown_now (same.entries name))
-removed_grow old new number small (inr removes) =
-    none_grow old new (λ period name segment.
-    ap shown_now (removes.entry.others name (λ is. no_journal period name number small is segment)))

@@ -1,5 +1,5 @@
 -- A store from call to call.
-use Rattle.std.proofs.Common.{◌≡◌, ⊎_elim, ℕ, ◌<◌, ◌≤◌, ◌^◌, List, [], ◌∷◌, ◌++◌, length, refl, sym, ap, subst, ◌∙◌, arith}
+use Rattle.std.proofs.Common.{◌≡◌, inl, ⊎_elim, ℕ, ◌<◌, ◌≤◌, ◌^◌, List, [], ◌∷◌, ◌++◌, length, refl, sym, ap, subst, ◌∙◌, arith}
 use Rattle.std.specs.Prelude.{None, true}
 use Rattle.disk.specs.Memory.{shown_now}
 use Rattle.disk.specs.States.{State}
@@ -13,12 +13,13 @@ use Rattle.record_store.specs.Crashes.{Keeps, resting}
 use Rattle.record_store.specs.Holdings.{AreEntries, IsBatch}
 use Rattle.record_store.specs.Names.{IsJournal, journal_name}
 use Rattle.record_store.specs.Seals.{seal_of}
-use Rattle.record_store.specs.Shown.{NoneShownAbove}
+use Rattle.record_store.specs.Shown.{JournalsWithin, NoneShownAbove, ShowsWithin}
 use Rattle.record_store.specs.Stores.{AreAmong, IsReady, Sets, Stands, all_committed, with_waiting}
 use Rattle.record_store.specs.declared.store.RecordStore.{RecordStore}
+use Rattle.record_store.proofs.Apart.{more_journals, newest_journals, segments_beside}
 use Rattle.record_store.proofs.Batches.{batch_has, none_wait, none_waits, pushed_either, waiting_push}
 use Rattle.record_store.proofs.Committing.{commit_keeps, commit_within, committed_keeps}
-use Rattle.record_store.proofs.Named.{numbers_apart}
+use Rattle.record_store.proofs.Named.{numbers_apart, other_number}
 use Rattle.record_store.proofs.Sealed.{sealed_batch}
 use Rattle.record_store.proofs.Showing.{ready_shows}
 
@@ -60,11 +61,27 @@ module _ (old new : State) (store after : RecordStore) (sets : Sets) (stands : S
   none_later : NoneShownAbove new store.number
   none_later n above small = ap shown_now (later n above small)
 
+  -- what the older journals have
+  commit_older : ShowsWithin new sets.since → JournalsWithin new sets.since
+  commit_older newest =
+      newest_journals old new store.number sets.since none_later
+      (λ n small apart. ap shown_now (keeps (journal_name n)
+      (λ is. apart (other_number n store.number small ready.small (is ∙ ready.named)))))
+      (segments_beside old new store.journal.name (ready_named store old sets.since ready)
+      (λ other apart. inl (keeps other apart)))
+      newest (stands.older ready.stands.sound)
+
   module _ (leaves : LeavesBatches new store.journal.name (WithOrWithout ready.bodies body)) where
     pub commit_any : Keeps new sets.committed sets.received
     commit_any =
         commit_keeps old store.journal ready.bodies (ready_named store old sets.since ready) ready.stands new body keeps
         leaves sets.committed sets.received sets.waiting stands.keeps sealed was_received
+
+    commit_shows : ShowsWithin new sets.since
+    commit_shows =
+        commit_within old store.journal ready.bodies (ready_named store old sets.since ready) ready.stands new body
+        keeps leaves store.number sets.waiting sets.since ready.small ready.named none_later sealed stands.waits
+        ready.has
 
     -- it has failed
     pub commit_err : after.batch.items ≡ store.batch.items → after.broken ≡ true → Stands after new sets
@@ -74,10 +91,8 @@ module _ (old new : State) (store after : RecordStore) (sets : Sets) (stands : S
       waits = stands.waits;
       within = stands.within;
       ready = λ not_broken. absurd (cc (broken, not_broken));
-      shows = λ sound.
-          commit_within old store.journal ready.bodies (ready_named store old sets.since ready) ready.stands new body
-          keeps leaves store.number sets.waiting sets.since ready.small ready.named none_later sealed stands.waits
-          ready.has;
+      shows = λ sound. commit_shows;
+      older = λ sound. commit_older commit_shows;
     }
 
     commit_ready : after.number ≡ store.number → after.journal.name ≡ store.journal.name
@@ -107,6 +122,7 @@ module _ (old new : State) (store after : RecordStore) (sets : Sets) (stands : S
           within = stands.within;
           ready = λ not_broken. ready_then;
           shows = λ sound. ready_shows after new sets.since ready_then;
+          older = λ sound. commit_older (ready_shows after new sets.since ready_then);
         }
 
 -- it was not begun
@@ -119,6 +135,7 @@ broken_stands store after state sets stands same broken = record {
   within = stands.within;
   ready = λ not_broken. absurd (cc (broken, not_broken));
   shows = stands.shows;
+  older = stands.older;
 }
 
 -- nothing waits
@@ -142,6 +159,7 @@ idle_stands store state sets stands empty =
       within = stands.within;
       ready = stands.ready;
       shows = stands.shows;
+      older = stands.older;
     }
 
 -- ---- an entry is appended
@@ -183,6 +201,7 @@ module _ (store after : RecordStore) (state : State) (sets : Sets) (stands : Sta
     ready = λ not_broken.
         ready_moved sets.since (λ e has. has) (stands.ready (sym same_broken ∙ not_broken));
     shows = stands.shows;
+    older = stands.older;
   }
 
   pub appended_stands : (e : Entry) → IsEntry e → length e.octets ≤ ENTRY_MAX
@@ -197,4 +216,7 @@ module _ (store after : RecordStore) (state : State) (sets : Sets) (stands : Sta
         (stands.ready (sym same_broken ∙ not_broken));
     shows = λ sound number octets newest x has.
         has_left sets.since (e ∷ []) x (stands.shows sound number octets newest x has);
+    older = λ sound.
+        more_journals state sets.since (sets.since ++ e ∷ []) (λ x has. has_left sets.since (e ∷ []) x has)
+        (stands.older sound);
   }

@@ -1,5 +1,5 @@
 -- Why a call on a store fails.
-use Rattle.std.specs.Prelude.{◌≡◌, ◌≢◌, ◌≤◌, ◌⊎◌, ℕ, ◌+◌, ◌^◌, List, None, Some, length}
+use Rattle.std.specs.Prelude.{◌≡◌, ◌≢◌, ◌≤◌, ◌⊎◌, ℕ, ◌+◌, ◌<◌, ◌^◌, List, None, Some, length}
 use Rattle.disk.specs.Memory.{shown_now}
 use Rattle.disk.specs.States.{State}
 use Rattle.disk.specs.declared.fault.DiskFault.{DiskFault}
@@ -7,7 +7,7 @@ use Rattle.disk.specs.declared.fault.DiskFault.TheVariants.{Missing, Exists, Ful
 use Rattle.journal.specs.Journals.{IsSound, end_of}
 use Rattle.journal.specs.declared.fault.JournalFault.{JournalFault}
 use Rattle.journal.specs.declared.fault.JournalFault.TheVariants.{Disk, TooLong}
-use Rattle.record_store.specs.Shown.{IsNewestShown, ShowsNoJournal}
+use Rattle.record_store.specs.Shown.{IsNewestShown, ShowsNoJournal, journal_shown}
 use Rattle.record_store.specs.Stores.{IsBroken, Sets, Stands}
 use Rattle.record_store.specs.declared.fault.StoreFault.{StoreFault}
 use Rattle.record_store.specs.declared.fault.StoreFault.TheVariants.{Broken, Journal, Folder, LastNumber}
@@ -68,11 +68,12 @@ TellsFull (Folder fault) = fault ≡ Full
 TellsFull (LastNumber number) = ⊥
 TellsFull No_memory = ⊥
 
--- the newest journal that is shown is too long to be opened
+-- a journal that is shown is too long to be opened
 pub record ShowsTooLong (state : State) : Type 0 where
   pub number : ℕ
   pub octets : List ℕ
-  pub newest : IsNewestShown state number octets
+  pub small : number < 2 ^ 64
+  pub shown : journal_shown state number ≡ Some octets
   pub long : 2 ^ 40 ≤ length octets
 
 -- of the opening of a journal that a read shows
@@ -104,6 +105,26 @@ first_causes tells failed state = record {
   full = failed;
   other = tells → ¬ (ShowsNoJournal state);
   long = ⊥;
+}
+
+-- of a list of the journals: none is missing or in the way
+abbrev pub listing_causes : Type 0 → Type 0 → Causes
+listing_causes tells failed = record {
+  broken = ⊥;
+  failed = failed;
+  full = failed;
+  other = ¬ tells;
+  long = ⊥;
+}
+
+-- of the reading of the journal of a number: it is missing only where a read shows none, and too long only if it is
+abbrev pub reading_causes : Type 0 → Type 0 → State → ℕ → Causes
+reading_causes tells failed state number = record {
+  broken = ⊥;
+  failed = failed;
+  full = failed;
+  other = tells → IsSound state → (octets : List ℕ) → journal_shown state number ≢ Some octets;
+  long = tells → IsSound state → (octets : List ℕ) → journal_shown state number ≡ Some octets → 2 ^ 40 ≤ length octets;
 }
 
 -- of an opening: no file is missing or in the way unless a sync has failed

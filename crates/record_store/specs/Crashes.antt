@@ -4,8 +4,8 @@ use Rattle.disk.specs.Files.{settled}
 use Rattle.disk.specs.States.{Entry as DiskEntry, Files, NameMayLeave, State}
 use Rattle.journal.specs.Journals.{only_file}
 use Rattle.archive_text.specs.Entries.{Entry, Has}
-use Rattle.record_store.specs.Holdings.{Held}
-use Rattle.record_store.specs.Names.{Counts}
+use Rattle.record_store.specs.Holdings.{Held, HeldAt}
+use Rattle.record_store.specs.Names.{Counts, IsSegment}
 
 -- what a crash may leave under the names that count, whatever is under others
 abbrev pub MayLeaveCounted : State → Files → Type 0
@@ -15,6 +15,17 @@ MayLeaveCounted state files = (name : List ℕ) → Counts name → NameMayLeave
 pub record Keeps (state : State) (committed received : List Entry) : Type 0 where
   pub nothing_lost : (files : Files) → MayLeaveCounted state files → (e : Entry) → Has committed e → Held files e
   pub nothing_forged : (files : Files) → MayLeaveCounted state files → (e : Entry) → Held files e → Has received e
+
+-- a segment holds the entry, whatever a crash leaves of it
+pub record InSegment (state : State) (e : Entry) : Type 0 where
+  pub day : List ℕ
+  pub name : List ℕ
+  pub segment : IsSegment day name
+  pub holds : (octets : Option (List ℕ)) → NameMayLeave (state.entries name) octets → HeldAt name octets e
+
+-- so it is of each of these entries
+abbrev pub HeldApart : State → List Entry → Type 0
+HeldApart state es = (e : Entry) → Has es e → InSegment state e
 
 -- a file that is on the disk, or none that ever was
 abbrev pub resting : Option (List ℕ) → DiskEntry

@@ -1,5 +1,5 @@
 -- The names of a store's files. A name that is none of these counts for nothing.
-use Rattle.std.specs.Prelude.{◌≡◌, ◌⊎◌, ℕ, ◌^◌, ◌<◌, ◌≤◌, List, ◌∷◌, ◌++◌, All, Contains, codes, decimal, length}
+use Rattle.std.specs.Prelude.{◌≡◌, ◌⊎◌, ◌↔◌, ℕ, ◌^◌, ◌<◌, ◌≤◌, List, ◌∷◌, ◌++◌, All, Contains, codes, decimal, length}
 use Rattle.std.specs.Prelude.{Option, None, Some, IsNone, MatchOption}
 use Rattle.disk.specs.Names.{IsNameOctet}
 
@@ -57,3 +57,7 @@ NoneAbove names (Some m) = (n : ℕ) → m < n → n < 2 ^ 64 → ¬ (Contains n
 pub record IsNewest (names : List (List ℕ)) (found : Option ℕ) : Type 0 where
   pub some : (n : ℕ) → found ≡ Some n → Contains names (journal_name n)
   pub none_above : NoneAbove names found
+
+-- the numbers up to one of the journals that have these names
+abbrev pub AreNumbersOf : List (List ℕ) → ℕ → List ℕ → Type 0
+AreNumbersOf names last numbers = (n : ℕ) → Contains numbers n ↔ ((n ≤ last) × Contains names (journal_name n))

@@ -12,6 +12,7 @@ use Rattle.archive_text.specs.declared.limits.TheConstants.{ENTRY_MAX}
 use Rattle.record_store.specs.Causes.{IsDraftCause}
 use Rattle.record_store.specs.Holdings.{HeldAt, IsOfPeriod}
 use Rattle.record_store.specs.Names.{Counts, IsDayName, IsSegment, journal_name}
+use Rattle.record_store.specs.Shown.{journal_shown}
 use Rattle.record_store.specs.Stores.{AreAmong}
 use Rattle.record_store.specs.declared.segment.SegmentDraft.{SegmentDraft}
 use Rattle.record_store.specs.declared.segment.SegmentFault.{SegmentFault}
@@ -83,3 +84,8 @@ pub record SegmentsGrow (most : ℕ) (old new : State) : Type 0 where
   pub few : length names ≤ most
   pub others : (period name : List ℕ) → IsSegment period name → AllByRecursion (λ n. name ≢ n) names
       → shown_now (new.entries name) ≡ shown_now (old.entries name)
+
+-- the same, and the journals are shown as they were
+pub record GrowsBeside (most : ℕ) (old new : State) : Type 0 where
+  pub grow : SegmentsGrow most old new
+  pub journals : (n : ℕ) → n < 2 ^ 64 → journal_shown new n ≡ journal_shown old n

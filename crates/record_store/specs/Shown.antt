@@ -1,9 +1,11 @@
 -- The journals that a read of a folder shows.
-use Rattle.std.specs.Prelude.{◌≡◌, ◌≢◌, ◌⊎◌, ℕ, ◌^◌, ◌<◌, List, [], Option, None, Some}
+use Rattle.std.specs.Prelude.{◌≡◌, ◌≢◌, ◌⊎◌, ◌↔◌, ℕ, ◌^◌, ◌<◌, ◌≤◌, List, [], Contains, Option, None, Some}
+use Rattle.std.specs.List.Sorted.{IsStrictlyIncreasing}
 use Rattle.disk.specs.Memory.{shown_now}
 use Rattle.disk.specs.States.{State}
 use Rattle.journal.specs.Batches.{HasBatches, batches_text}
 use Rattle.archive_text.specs.Entries.{Entry, Has}
+use Rattle.record_store.specs.Crashes.{InSegment}
 use Rattle.record_store.specs.Holdings.{JournalHas}
 use Rattle.record_store.specs.Names.{journal_name}
 
@@ -29,6 +31,23 @@ ShowsNoJournal state = (n : ℕ) → n < 2 ^ 64 → journal_shown state n ≡ No
 abbrev pub ShowsWithin : State → List Entry → Type 0
 ShowsWithin state since = (number : ℕ) (octets : List ℕ) → IsNewestShown state number octets
     → (e : Entry) → JournalHas octets e → Has since e
+
+-- some journal that is shown has the entry
+pub record JournalsHave (state : State) (e : Entry) : Type 0 where
+  pub number : ℕ
+  pub octets : List ℕ
+  pub small : number < 2 ^ 64
+  pub shown : journal_shown state number ≡ Some octets
+  pub has : JournalHas octets e
+
+-- what a journal that is shown has is one of these entries, or is in a segment
+abbrev pub JournalsWithin : State → List Entry → Type 0
+JournalsWithin state since = (e : Entry) → JournalsHave state e → Has since e ⊎ InSegment state e
+
+-- the numbers, ascending, of all journals up to one that are shown
+pub record AreShown (state : State) (last : ℕ) (numbers : List ℕ) : Type 0 where
+  pub ascend : IsStrictlyIncreasing numbers
+  pub are : (n : ℕ) → Contains numbers n ↔ ((n ≤ last) × (journal_shown state n ≢ None))
 
 -- a text is the batches of the newest journal that is shown, one behind the other
 pub record GivesShown (state : State) (number : ℕ) (text : List ℕ) : Type 0 where

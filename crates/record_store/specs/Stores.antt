@@ -9,7 +9,7 @@ use Rattle.archive_text.specs.declared.limits.TheConstants.{ENTRY_MAX}
 use Rattle.record_store.specs.Crashes.{Keeps, resting}
 use Rattle.record_store.specs.Holdings.{AreEntries, BatchesHave}
 use Rattle.record_store.specs.Names.{journal_name}
-use Rattle.record_store.specs.Shown.{ShowsWithin}
+use Rattle.record_store.specs.Shown.{JournalsWithin, ShowsWithin}
 use Rattle.record_store.specs.declared.fault.AppendFault.{AppendFault}
 use Rattle.record_store.specs.declared.fault.AppendFault.TheVariants.{Entry as Entry_fault, TooLong, Broken, Memory}
 use Rattle.record_store.specs.declared.store.RecordStore.{RecordStore}
@@ -99,7 +99,8 @@ pub record IsReady (store : RecordStore) (state : State) (since : List Entry) : 
 
 -- What a crash leaves of the folder holds all that is committed, and nothing that was not received; what waits came since
 -- the last checkpoint, and what came since was received; unless a call has failed the journal is ready for the next; and
--- where none of the failed calls was a sync, what a read shows in the newest journal came since the last checkpoint.
+-- where none of the failed calls was a sync, what a read shows in the newest journal came since the last checkpoint, and
+-- what it shows in an older one did too, or is in a segment.
 pub record Stands (store : RecordStore) (state : State) (sets : Sets) : Type 0 where
   pub keeps : Keeps state sets.committed sets.received
   pub batch : AreEntries sets.waiting store.batch.items
@@ -107,3 +108,4 @@ pub record Stands (store : RecordStore) (state : State) (sets : Sets) : Type 0 w
   pub within : AreAmong sets.since sets.received
   pub ready : store.broken ≡ false → IsReady store state sets.since
   pub shows : state.lost ≡ false → ShowsWithin state sets.since
+  pub older : state.lost ≡ false → JournalsWithin state sets.since

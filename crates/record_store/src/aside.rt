@@ -1,13 +1,19 @@
 //! What an opening cuts off is set aside before.
-ghost use Rattle.std.specs.Prelude.{◌≡◌, ◌⊎◌, IfErr, IfOk, IsErrOf, List, OnOk, Some, ℕ};
+ghost use Rattle.std.specs.Prelude.{◌≡◌, ◌⊎◌, ◌∷◌, ◌++◌, [], IfErr, IfOk, IsErrOf, List, OnOk, Some, ℕ};
 ghost use Rattle.disk.specs.Memory.{shown_now};
+ghost use Rattle.journal.specs.Batches.{HasBatches, batches_text};
 ghost use Rattle.journal.specs.Journals.{IsSound, KeepsOrSettlesOthers, KeepsOthers};
 ghost use Rattle.record_store.specs.Asides.{IsAside, KeepsOrSettlesCounted, ShowsOrNone, WritesBehind};
 ghost use Rattle.record_store.specs.Asides.{aside_causes, aside_name};
-ghost use Rattle.record_store.specs.Causes.{IsCause};
+ghost use Rattle.archive_text.specs.Entries.{Entry};
+ghost use Rattle.record_store.specs.Causes.{IsCause, reading_causes};
+ghost use Rattle.record_store.specs.Crashes.{Keeps};
+ghost use Rattle.record_store.specs.Names.{journal_name};
+ghost use Rattle.record_store.specs.Shown.{ShowsTheBatches, journal_shown};
 
 use crate::fault::StoreFault;
-use crate::names::name_of_aside;
+use crate::names::{name_of_aside, name_of_journal};
+use crate::opening::open_shown;
 use crate::putting::discard;
 use crate::turning::at_journal;
 use disk::{Disk, DiskFault, FileName};
@@ -108,5 +114,41 @@ pub fn set_aside<D: Disk>(
     match put_behind(disk, &name, octets) {
         Ok(()) => Ok(()),
         Err(fault) => Err(at_journal(number, fault)),
+    }
+}
+
+/// Brings the journal with a number, which a read shows, to the disk, and cuts off what is behind its
+/// batches. So an opening does with the newest one.
+///
+/// # Errors
+/// The disk's fault, lack of memory, or a journal that is too long to be opened.
+pub fn cut_journal<D: Disk>(alloc: Global, disk: &mut D, number: u64) -> Result<(), StoreFault>
+    ensures sound { OnOk result (D.tells disk.new → IsSound (D.state disk.old)
+        → (octets : List ℕ) → journal_shown (D.state disk.old) number ≡ Some octets
+        → IsSound (D.state disk.new)) }
+    ensures cut { OnOk result (D.tells disk.new → IsSound (D.state disk.old)
+        → (octets : List ℕ) (bodies : List (List ℕ)) → journal_shown (D.state disk.old) number ≡ Some octets
+        → HasBatches octets bodies
+        → (gate : ℕ) × (journal_shown (D.state disk.new) number ≡ Some (batches_text bodies ++ gate ∷ []))) }
+
+    // whatever the result is: so at every moment
+    ensures any_moment { D.tells disk.new → IsSound (D.state disk.old)
+        → (octets : List ℕ) → journal_shown (D.state disk.old) number ≡ Some octets
+        → (committed received : List Entry) → Keeps (D.state disk.old) committed received
+        → Keeps (D.state disk.new) committed received }
+    ensures shows { D.tells disk.new → IsSound (D.state disk.old)
+        → (octets : List ℕ) → journal_shown (D.state disk.old) number ≡ Some octets
+        → ShowsTheBatches (D.state disk.old) (D.state disk.new) (journal_name number) }
+    ensures others { D.tells disk.new
+        → KeepsOrSettlesOthers (D.state disk.old) (D.state disk.new) (journal_name number) }
+
+    ensures told { D.tells disk.new → D.tells disk.old }
+    ensures cause { IfErr result (IsCause
+        (reading_causes (D.tells disk.new) (D.has_failed disk.new) (D.state disk.old) number)) }
+{
+    let name = name_of_journal(alloc, number)?;
+    match open_shown(alloc, disk, name) {
+        Ok(_opened) => Ok(()),
+        Err(fault) => Err(StoreFault::Journal { number, fault }),
     }
 }

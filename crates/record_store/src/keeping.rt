@@ -181,21 +181,19 @@ fn bring<D: Disk>(disk: &mut D, draft: &FileName, name: &FileName) -> Result<boo
 
 impl SegmentDraft {
     ghost use Rattle.archive_text.specs.Entries.{Entry};
-    ghost use Rattle.record_store.specs.Crashes.{Keeps};
+    ghost use Rattle.record_store.specs.Crashes.{HeldApart, Keeps};
     ghost use Rattle.record_store.specs.Keeping.{IsDraftOf, IsKeepCause, IsTaken};
-    ghost use Rattle.record_store.specs.Names.{Counts, journal_name};
-    ghost use Rattle.record_store.specs.Segments.{Drafts, JournalsSettle, SegmentsGrow, draft_of};
+    ghost use Rattle.record_store.specs.Names.{Counts};
+    ghost use Rattle.record_store.specs.Segments.{Drafts, GrowsBeside, JournalsSettle, draft_of};
     ghost use Rattle.record_store.specs.Segments.{segment_name};
-    ghost use Rattle.record_store.specs.Turns.{HeldApart};
-
     /// Brings the segment to the disk under its name, `DAY.HEX.archive` with the SHA-256 of its
     /// octets, as `finish` does, but looks first at what is there: a file of these octets is
     /// brought to the disk, and the draft is left; one of other octets stays, and is reported. So
     /// nothing is presumed of the folder. It fails as the variants of [`KeepFault`] say.
     pub fn keep<D: Disk>(self, alloc: Global, disk: &mut D, day: &[u8]) -> Result<(), KeepFault>
         ensures held { OnOk result (D.tells disk.new → (es received : List Entry)
-            → IsDraftOf self (D.state disk.old) day.now es received → (number : ℕ) → number < 2 ^ 64
-            → HeldApart (D.state disk.new) (journal_name number) es) }
+            → IsDraftOf self (D.state disk.old) day.now es received
+            → HeldApart (D.state disk.new) es) }
         ensures sound { OnOk result (D.tells disk.new → (text : List ℕ)
             → Drafts self (D.state disk.old) text → ¬ (Counts (draft_of self))
             → IsOnDisk (D.state disk.new) (segment_name day.now text) text) }
@@ -210,11 +208,11 @@ impl SegmentDraft {
             → JournalsSettle (D.state disk.old) (D.state disk.new) }
         ensures still_held { D.tells disk.new → (es received : List Entry)
             → IsDraftOf self (D.state disk.old) day.now es received
-            → (name : List ℕ) (others : List Entry) → HeldApart (D.state disk.old) name others
-            → HeldApart (D.state disk.new) name others }
+            → (others : List Entry) → HeldApart (D.state disk.old) others
+            → HeldApart (D.state disk.new) others }
 
         ensures segments { D.tells disk.new → (text : List ℕ) → Drafts self (D.state disk.old) text
-            → ¬ (Counts (draft_of self)) → SegmentsGrow 1 (D.state disk.old) (D.state disk.new) }
+            → ¬ (Counts (draft_of self)) → GrowsBeside 1 (D.state disk.old) (D.state disk.new) }
 
         // a file of other octets stays as it is
         ensures stays { D.tells disk.new → IsTaken self (D.state disk.old) day.now
@@ -240,12 +238,11 @@ impl SegmentDraft {
 
 impl RecordStore {
     ghost use Rattle.archive_text.specs.Entries.{Entry};
+    ghost use Rattle.record_store.specs.Crashes.{HeldApart};
     ghost use Rattle.record_store.specs.Keeping.{IsDraftOf, IsKeepCause, IsTaken};
-    ghost use Rattle.record_store.specs.Names.{Counts, journal_name};
-    ghost use Rattle.record_store.specs.Segments.{Drafts, SegmentsGrow, draft_of};
+    ghost use Rattle.record_store.specs.Names.{Counts};
+    ghost use Rattle.record_store.specs.Segments.{Drafts, GrowsBeside, draft_of};
     ghost use Rattle.record_store.specs.Stores.{IsBroken, IsSameButBroken, Sets, Stands};
-    ghost use Rattle.record_store.specs.Turns.{HeldApart};
-
     /// Keeps a segment of entries that the store has received, as `add_segment` does, whatever is
     /// under its name. Once it has returned `Ok`, a file other than the journal holds each of them,
     /// whatever a crash leaves. The sets stay as they are at every moment.
@@ -262,8 +259,7 @@ impl RecordStore {
     ) -> Result<(), KeepFault>
         ensures held { OnOk result (D.tells disk.new → (es received : List Entry)
             → IsDraftOf draft (D.state disk.old) day.now es received
-            → (number : ℕ) → number < 2 ^ 64
-            → HeldApart (D.state disk.new) (journal_name number) es) }
+            → HeldApart (D.state disk.new) es) }
 
         // whatever the result is: so at every moment
         ensures stands { D.tells disk.new → (es : List Entry) (sets : Sets)
@@ -271,11 +267,11 @@ impl RecordStore {
             → Stands self.old (D.state disk.old) sets → Stands self.new (D.state disk.new) sets }
         ensures still_held { D.tells disk.new → (es received : List Entry)
             → IsDraftOf draft (D.state disk.old) day.now es received
-            → (name : List ℕ) (others : List Entry) → HeldApart (D.state disk.old) name others
-            → HeldApart (D.state disk.new) name others }
+            → (others : List Entry) → HeldApart (D.state disk.old) others
+            → HeldApart (D.state disk.new) others }
 
         ensures segments { D.tells disk.new → (text : List ℕ) → Drafts draft (D.state disk.old) text
-            → ¬ (Counts (draft_of draft)) → SegmentsGrow 1 (D.state disk.old) (D.state disk.new) }
+            → ¬ (Counts (draft_of draft)) → GrowsBeside 1 (D.state disk.old) (D.state disk.new) }
 
         // a file of other octets stays as it is
         ensures stays { D.tells disk.new → IsTaken draft (D.state disk.old) day.now

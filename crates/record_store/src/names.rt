@@ -1,7 +1,7 @@
 //! What files are called.
-ghost use Rattle.std.specs.Prelude.{◌≡◌, IfNone, IfOk, IfSome};
+ghost use Rattle.std.specs.Prelude.{◌≡◌, ◌≢◌, ◌≤◌, IfNone, IfOk, IfSome, ℕ};
 ghost use Rattle.record_store.specs.Asides.{aside_name};
-ghost use Rattle.record_store.specs.Names.{IsGreater, IsJournal, IsNewest, journal_name};
+ghost use Rattle.record_store.specs.Names.{AreNumbersOf, IsGreater, IsJournal, IsNewest, journal_name};
 ghost use Rattle.record_store.specs.Renewals.{renewal_name};
 
 use disk::FileName;
@@ -60,6 +60,17 @@ pub(crate) fn journal_number(name: &[u8]) -> Option<u64>
     Some(number)
 }
 
+// The same, if it is not above the last.
+fn number_up_to(name: &[u8], last: u64) -> Option<u64>
+    ensures some { IfSome result (λ number. (number ≤ last) × (name.now ≡ journal_name number)) }
+    ensures none { IfNone result ((n : ℕ) → n ≤ last → name.now ≢ journal_name n) }
+{
+    match journal_number(name) {
+        Some(number) if number <= last => Some(number),
+        _ => None,
+    }
+}
+
 // the greater of two numbers, of which there may be none
 fn greater(a: Option<u64>, b: Option<u64>) -> Option<u64>
     ensures { IsGreater a b result }
@@ -80,4 +91,21 @@ pub(crate) fn newest(names: &[FileName]) -> Option<u64>
         newest = greater(newest, journal_number(name.as_octets()));
     }
     newest
+}
+
+/// The numbers up to one of the journals that have these names, as they come.
+pub(crate) fn numbers_up_to(
+    alloc: Global,
+    names: &[FileName],
+    last: u64,
+) -> Result<Vec<u64>, AllocError>
+    ensures { IfOk result (λ numbers. AreNumbersOf names.now last numbers.items) }
+{
+    let mut numbers = Vec::new(alloc);
+    for name in names {
+        if let Some(number) = number_up_to(name.as_octets(), last) {
+            numbers.push(number)?;
+        }
+    }
+    Ok(numbers)
 }

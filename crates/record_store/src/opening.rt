@@ -1,6 +1,5 @@
 //! A store is opened.
-ghost use Rattle.std.specs.Prelude.{◌≡◌, ◌↔◌, [], List, ℕ, Some, IfErr, IfNone, IfOk, IfSome, IsErr, OnOk};
-ghost use Rattle.disk.specs.Calls.{IsUnchanged};
+ghost use Rattle.std.specs.Prelude.{◌≡◌, ◌↔◌, [], List, ℕ, Some, IfErr, IfOk, IsErr, OnOk};
 ghost use Rattle.disk.specs.Memory.{shown_now};
 ghost use Rattle.journal.specs.Journals.{IsSound, KeepsOrSettlesOthers, OpensOn, SettlesOthers, name_of};
 ghost use Rattle.archive_text.specs.Entries.{Entry, Has};
@@ -10,19 +9,19 @@ ghost use Rattle.record_store.specs.Causes.{opening_causes, shown_causes};
 ghost use Rattle.record_store.specs.Crashes.{Keeps};
 ghost use Rattle.record_store.specs.Holdings.{JournalHas};
 ghost use Rattle.record_store.specs.Names.{IsJournal};
-ghost use Rattle.record_store.specs.Shown.{GivesNewest, GivesShown, IsNewestShown, ShowsNoJournal, ShowsTheBatches};
-ghost use Rattle.record_store.specs.Shown.{ShowsWithin};
+ghost use Rattle.record_store.specs.Shown.{GivesNewest, GivesShown, IsNewestShown, JournalsWithin, ShowsNoJournal};
+ghost use Rattle.record_store.specs.Shown.{ShowsTheBatches, ShowsWithin};
 ghost use Rattle.record_store.specs.Stores.{AreAmong, IsBroken, Stands, begun, number_of};
 
 use crate::RecordStore;
 use crate::fault::StoreFault;
 use crate::names::{name_of_journal, newest};
 use disk::{Disk, FileName};
-use journal::{Journal, JournalFault, read_octets};
+use journal::{Journal, JournalFault};
 use std::alloc::Global;
 
 // Opens the journal that a read shows under a name, once what is shown is on the disk.
-fn open_shown<D: Disk>(
+pub(crate) fn open_shown<D: Disk>(
     alloc: Global,
     disk: &mut D,
     name: FileName,
@@ -63,7 +62,8 @@ fn open_journal<D: Disk>(
     ensures opened { IfOk result (λ r. D.tells disk.new → IsSound (D.state disk.old)
         → (octets : List ℕ) → IsNewestShown (D.state disk.old) number octets
         → (committed received since : List Entry) → Keeps (D.state disk.old) committed received
-        → AreAmong since received → ((e : Entry) → JournalHas r.1.items e → Has since e)
+        → AreAmong since received → JournalsWithin (D.state disk.old) since
+        → ((e : Entry) → JournalHas r.1.items e → Has since e)
         → Stands r.0 (D.state disk.new) (begun committed received since)) }
     ensures gives { IfOk result (λ r. D.tells disk.new → IsSound (D.state disk.old)
         → (octets : List ℕ) → IsNewestShown (D.state disk.old) number octets
@@ -80,6 +80,10 @@ fn open_journal<D: Disk>(
         → (octets : List ℕ) → IsNewestShown (D.state disk.old) number octets
         → (since : List Entry) → ShowsWithin (D.state disk.old) since
         → ShowsWithin (D.state disk.new) since }
+    ensures older { D.tells disk.new → IsSound (D.state disk.old)
+        → (octets : List ℕ) → IsNewestShown (D.state disk.old) number octets
+        → (since : List Entry) → JournalsWithin (D.state disk.old) since
+        → JournalsWithin (D.state disk.new) since }
     ensures files { D.tells disk.new → KeepsOrSettlesFiles (D.state disk.old) (D.state disk.new) }
 
     ensures whole { IfOk result (λ r. ¬ (IsBroken r.0)) }
@@ -114,7 +118,8 @@ fn open_journal<D: Disk>(
 pub fn open<D: Disk>(alloc: Global, disk: &mut D) -> Result<(RecordStore, Vec<u8>), StoreFault>
     ensures opened { IfOk result (λ r. D.tells disk.new → IsSound (D.state disk.old)
         → (committed received since : List Entry) → Keeps (D.state disk.old) committed received
-        → AreAmong since received → ((e : Entry) → JournalHas r.1.items e → Has since e)
+        → AreAmong since received → JournalsWithin (D.state disk.old) since
+        → ((e : Entry) → JournalHas r.1.items e → Has since e)
         → Stands r.0 (D.state disk.new) (begun committed received since)) }
     ensures newest { IfOk result (λ r. D.tells disk.new → IsSound (D.state disk.old)
         → GivesNewest (D.state disk.old) (number_of r.0) r.1.items) }
@@ -130,6 +135,9 @@ pub fn open<D: Disk>(alloc: Global, disk: &mut D) -> Result<(RecordStore, Vec<u8
     ensures shows { D.tells disk.new → IsSound (D.state disk.old)
         → (since : List Entry) → ShowsWithin (D.state disk.old) since
         → ShowsWithin (D.state disk.new) since }
+    ensures older { D.tells disk.new → IsSound (D.state disk.old)
+        → (since : List Entry) → JournalsWithin (D.state disk.old) since
+        → JournalsWithin (D.state disk.new) since }
     ensures files { D.tells disk.new → KeepsOrSettlesFiles (D.state disk.old) (D.state disk.new) }
 
     ensures whole { IfOk result (λ r. ¬ (IsBroken r.0)) }
@@ -144,38 +152,6 @@ pub fn open<D: Disk>(alloc: Global, disk: &mut D) -> Result<(RecordStore, Vec<u8
     match newest(&names) {
         Some(number) => open_journal(alloc, disk, number),
         None => Ok((RecordStore::begin(alloc, disk)?, Vec::new(alloc))),
-    }
-}
-
-/// Reads the newest journal that a read shows, and gives its number and its octets; None where there
-/// is none. It changes nothing.
-///
-/// # Errors
-/// The disk's fault, lack of memory, or a journal that is too long to be opened.
-pub fn newest_journal<D: Disk>(
-    alloc: Global,
-    disk: &mut D,
-) -> Result<Option<(u64, Vec<u8>)>, StoreFault>
-    ensures some { IfOk result (λ found. IfSome found (λ r. D.tells disk.new
-        → IsSound (D.state disk.old) → IsNewestShown (D.state disk.old) r.0 r.1.items)) }
-    ensures none { IfOk result (λ found. IfNone found (D.tells disk.new
-        → IsSound (D.state disk.old) → ShowsNoJournal (D.state disk.old))) }
-    ensures same { D.tells disk.new → IsUnchanged (D.state disk.old) (D.state disk.new) }
-    ensures told { D.tells disk.new → D.tells disk.old }
-    ensures cause { IfErr result (IsCause
-        (opening_causes (D.tells disk.new) (D.has_failed disk.new) (D.state disk.old))) }
-{
-    let names = match disk.names(alloc) {
-        Ok(names) => names,
-        Err(fault) => return Err(StoreFault::Folder { fault }),
-    };
-    let Some(number) = newest(&names) else {
-        return Ok(None);
-    };
-    let name = name_of_journal(alloc, number)?;
-    match read_octets(alloc, disk, &name) {
-        Ok(octets) => Ok(Some((number, octets))),
-        Err(fault) => Err(StoreFault::Journal { number, fault }),
     }
 }
 

@@ -136,13 +136,11 @@ pub(crate) fn place<D: Disk>(
 impl SegmentDraft {
     ghost use Rattle.archive_text.specs.Entries.{Entry};
     ghost use Rattle.record_store.specs.Causes.{IsBeginningCause, IsDraftCause};
-    ghost use Rattle.record_store.specs.Crashes.{Keeps};
-    ghost use Rattle.record_store.specs.Names.{Counts, journal_name};
+    ghost use Rattle.record_store.specs.Crashes.{HeldApart, Keeps};
+    ghost use Rattle.record_store.specs.Names.{Counts};
     ghost use Rattle.record_store.specs.Segments.{Drafts, IsOfSegment, IsSegmentCause, JournalsSettle};
     ghost use Rattle.record_store.specs.Segments.{draft_of, segment_name};
     ghost use Rattle.record_store.specs.Stores.{Sets, Stands};
-    ghost use Rattle.record_store.specs.Turns.{HeldApart};
-
     /// Begins a segment under the name of a draft, in place of what is there. It fails with the
     /// disk's fault.
     pub fn begin<D: Disk>(disk: &mut D, name: FileName) -> Result<SegmentDraft, DiskFault>
@@ -211,8 +209,8 @@ impl SegmentDraft {
         ensures segment { IfOk result (λ name. IsSegment day.now name) }
 
         ensures held { OnOk result (D.tells disk.new → (es received : List Entry)
-            → IsOfSegment self (D.state disk.old) day.now es received → (number : ℕ) → number < 2 ^ 64
-            → HeldApart (D.state disk.new) (journal_name number) es) }
+            → IsOfSegment self (D.state disk.old) day.now es received
+            → HeldApart (D.state disk.new) es) }
 
         // whatever the result is: so at every moment
         ensures any_moment { D.tells disk.new → (es committed received : List Entry)
@@ -223,8 +221,8 @@ impl SegmentDraft {
             → JournalsSettle (D.state disk.old) (D.state disk.new) }
         ensures still_held { D.tells disk.new → (es received : List Entry)
             → IsOfSegment self (D.state disk.old) day.now es received
-            → (name : List ℕ) (others : List Entry) → HeldApart (D.state disk.old) name others
-            → HeldApart (D.state disk.new) name others }
+            → (others : List Entry) → HeldApart (D.state disk.old) others
+            → HeldApart (D.state disk.new) others }
 
         ensures told { D.tells disk.new → D.tells disk.old }
         ensures cause { IfErr result (IsSegmentCause (D.tells disk.new) (D.has_failed disk.new)
@@ -245,11 +243,9 @@ impl SegmentDraft {
 impl RecordStore {
     ghost use Rattle.std.specs.Prelude.{IsErr};
     ghost use Rattle.archive_text.specs.Entries.{Entry};
-    ghost use Rattle.record_store.specs.Names.{journal_name};
+    ghost use Rattle.record_store.specs.Crashes.{HeldApart};
     ghost use Rattle.record_store.specs.Segments.{IsOfSegment, IsSegmentCause, draft_of};
     ghost use Rattle.record_store.specs.Stores.{IsBroken, Sets, Stands, number_of};
-    ghost use Rattle.record_store.specs.Turns.{HeldApart};
-
     /// Finishes a segment of entries that the store has received. Once it has returned `Ok`, a file
     /// other than the journal holds each of them, whatever a crash leaves; so `turn` may follow
     /// once all that came since the last checkpoint is in segments. The sets stay as they are at
@@ -266,8 +262,7 @@ impl RecordStore {
     ) -> Result<(), SegmentFault>
         ensures held { OnOk result (D.tells disk.new → (es received : List Entry)
             → IsOfSegment draft (D.state disk.old) day.now es received
-            → (number : ℕ) → number < 2 ^ 64
-            → HeldApart (D.state disk.new) (journal_name number) es) }
+            → HeldApart (D.state disk.new) es) }
 
         // whatever the result is: so at every moment
         ensures stands { D.tells disk.new → (es : List Entry) (sets : Sets)
@@ -275,8 +270,8 @@ impl RecordStore {
             → Stands self.old (D.state disk.old) sets → Stands self.new (D.state disk.new) sets }
         ensures still_held { D.tells disk.new → (es received : List Entry)
             → IsOfSegment draft (D.state disk.old) day.now es received
-            → (name : List ℕ) (others : List Entry) → HeldApart (D.state disk.old) name others
-            → HeldApart (D.state disk.new) name others }
+            → (others : List Entry) → HeldApart (D.state disk.old) others
+            → HeldApart (D.state disk.new) others }
 
         ensures number { number_of self.new ≡ number_of self.old }
         ensures breaks { IsErr result → IsBroken self.new }

@@ -7,7 +7,7 @@ ghost use Rattle.record_store.specs.Asides.{KeepsOrSettlesFiles};
 ghost use Rattle.record_store.specs.Causes.{IsCause, commit_causes, first_causes};
 ghost use Rattle.record_store.specs.Crashes.{Keeps};
 ghost use Rattle.record_store.specs.Seals.{sealed};
-ghost use Rattle.record_store.specs.Shown.{ShowsNoJournal, ShowsWithin};
+ghost use Rattle.record_store.specs.Shown.{JournalsWithin, ShowsNoJournal, ShowsWithin};
 ghost use Rattle.record_store.specs.Stores.{AreAmong, IsAppendFault, IsBroken, Sets, Stands};
 ghost use Rattle.record_store.specs.Stores.{all_committed, batch_of, begun, journal_of, number_of};
 ghost use Rattle.record_store.specs.Stores.{with_waiting};
@@ -48,6 +48,8 @@ impl RecordStore {
             → Keeps (D.state disk.new) committed received }
         ensures shows { D.tells disk.new → ShowsNoJournal (D.state disk.old)
             → (since : List Entry) → ShowsWithin (D.state disk.new) since }
+        ensures older { D.tells disk.new → ShowsNoJournal (D.state disk.old)
+            → (since : List Entry) → JournalsWithin (D.state disk.new) since }
         ensures files { D.tells disk.new → KeepsOrSettlesFiles (D.state disk.old) (D.state disk.new) }
 
         ensures whole { IfOk result (λ store. ¬ (IsBroken store)) }

@@ -1,26 +1,30 @@
 //! One journal after another.
-ghost use Rattle.std.specs.Prelude.{◌≡◌, ◌⊎◌, ◌+◌, ◌↔◌, ◌^◌, ◌<◌, [], None, List, IfErr, IfOk, IsErr};
-ghost use Rattle.std.specs.Prelude.{OnErr, OnOk};
+ghost use Rattle.std.specs.Prelude.{◌≡◌, ◌⊎◌, ◌+◌, ◌↔◌, ◌^◌, ◌<◌, [], None, List, ℕ, Contains, IfErr, IfOk};
+ghost use Rattle.std.specs.Prelude.{IsErr, OnErr, OnOk};
 ghost use Rattle.disk.specs.Calls.{IsUnchanged, RemovesFile};
 ghost use Rattle.journal.specs.Journals.{IsSound, KeepsOrSettlesOthers, LeavesNoBatch, SettlesOthers};
 ghost use Rattle.journal.specs.Journals.{ShowsNoBatch, Stands as JournalStands, name_of};
 ghost use Rattle.archive_text.specs.Entries.{Entry};
 ghost use Rattle.record_store.specs.Causes.{IsCause};
-ghost use Rattle.record_store.specs.Crashes.{Keeps};
+ghost use Rattle.record_store.specs.Crashes.{HeldApart, Keeps};
 ghost use Rattle.record_store.specs.Names.{journal_name};
 ghost use Rattle.record_store.specs.Segments.{SegmentsGrow};
-ghost use Rattle.record_store.specs.Shown.{ShowsWithin, journal_shown};
+ghost use Rattle.record_store.specs.Shown.{JournalsWithin, ShowsWithin, journal_shown};
 ghost use Rattle.record_store.specs.Stores.{IsBroken, IsReady, IsWhole, Sets, Stands};
 ghost use Rattle.record_store.specs.Stores.{journal_of, number_of};
-ghost use Rattle.record_store.specs.Turns.{HeldApart, making_causes, removing_causes, turn_causes};
-ghost use Rattle.record_store.specs.Turns.{turned};
+ghost use Rattle.record_store.specs.Turns.{AreInSegments, LosesOnly, ShedsOldest, making_causes, removing_causes};
+ghost use Rattle.record_store.specs.Turns.{shedding_causes, turn_causes, turned};
 
 use crate::RecordStore;
 use crate::fault::StoreFault;
+use crate::listing::journals;
 use crate::names::name_of_journal;
 use disk::{Disk, DiskFault};
 use journal::{Journal, JournalFault};
 use std::alloc::Global;
+
+// the most journals that a turn removes
+const SHED_MAX: usize = 64;
 
 pub(crate) fn at_journal(number: u64, fault: DiskFault) -> StoreFault
     ensures { result ≡ StoreFault.Journal number (JournalFault.Disk fault) }
@@ -77,7 +81,29 @@ fn remove_journal<D: Disk>(alloc: Global, disk: &mut D, number: u64) -> Result<(
     }
 }
 
-// Makes the journal behind that of a number, and then removes that.
+// Removes these journals, the first one first.
+fn remove_journals<D: Disk>(alloc: Global, disk: &mut D, numbers: &[u64]) -> Result<(), StoreFault>
+    ensures gone { OnOk result (D.tells disk.new → (n : ℕ) → Contains numbers.now n
+        → journal_shown (D.state disk.new) n ≡ None) }
+
+    // whatever the result is: so at every moment
+    ensures any_moment { D.tells disk.new → AreInSegments (D.state disk.old) numbers.now
+        → (committed received : List Entry) → Keeps (D.state disk.old) committed received
+        → Keeps (D.state disk.new) committed received }
+    ensures only { D.tells disk.new → LosesOnly (D.state disk.old) (D.state disk.new) numbers.now }
+    ensures lost { D.tells disk.new → (D.state disk.new).lost ≡ (D.state disk.old).lost }
+
+    ensures told { D.tells disk.new → D.tells disk.old }
+    ensures cause { IfErr result (IsCause (shedding_causes (D.tells disk.new) (D.has_failed disk.new)
+        (D.state disk.old) numbers.now)) }
+{
+    for number in numbers {
+        remove_journal(alloc, disk, *number)?;
+    }
+    Ok(())
+}
+
+// Makes the journal behind that of a number, and then removes the oldest of those up to it.
 fn succeed<D: Disk>(alloc: Global, disk: &mut D, number: u64) -> Result<Journal, StoreFault>
     ensures ready { IfOk result (λ journal. D.tells disk.new → (store after : RecordStore)
         (since : List Entry) → IsReady store (D.state disk.old) since → number_of store ≡ number
@@ -87,21 +113,22 @@ fn succeed<D: Disk>(alloc: Global, disk: &mut D, number: u64) -> Result<Journal,
     // whatever the result is: so at every moment
     ensures any_moment { D.tells disk.new → (store : RecordStore) (since : List Entry)
         → IsReady store (D.state disk.old) since → number_of store ≡ number
-        → HeldApart (D.state disk.old) (journal_name number) since
+        → JournalsWithin (D.state disk.old) since → HeldApart (D.state disk.old) since
         → (committed received : List Entry) → Keeps (D.state disk.old) committed received
         → Keeps (D.state disk.new) committed received }
-    ensures apart { D.tells disk.new → (store : RecordStore) (since : List Entry)
-        → IsReady store (D.state disk.old) since → number_of store ≡ number
-        → HeldApart (D.state disk.old) (journal_name number) since
-        → HeldApart (D.state disk.new) (journal_name number) since }
+    ensures apart { D.tells disk.new → (es : List Entry) → HeldApart (D.state disk.old) es
+        → HeldApart (D.state disk.new) es }
     ensures shows { D.tells disk.new → (store : RecordStore) (since : List Entry)
         → IsReady store (D.state disk.old) since → number_of store ≡ number
         → ShowsWithin (D.state disk.new) since }
+    ensures older { D.tells disk.new → (store : RecordStore) (since : List Entry)
+        → IsReady store (D.state disk.old) since → number_of store ≡ number
+        → JournalsWithin (D.state disk.old) since → JournalsWithin (D.state disk.new) since }
     ensures segments { D.tells disk.new → SegmentsGrow 0 (D.state disk.old) (D.state disk.new) }
 
     ensures fits { OnOk result (number + 1 < 2 ^ 64) }
-    ensures removed { OnOk result (D.tells disk.new
-        → journal_shown (D.state disk.new) number ≡ None) }
+    ensures sheds { OnOk result (D.tells disk.new → IsSound (D.state disk.old)
+        → ShedsOldest 64 (D.state disk.old) (D.state disk.new) number) }
     ensures told { D.tells disk.new → D.tells disk.old }
     ensures cause { (store : RecordStore) → IsWhole store → number_of store ≡ number → IfErr result (IsCause
         (turn_causes (D.tells disk.new) (D.has_failed disk.new) store (D.state disk.old))) }
@@ -109,16 +136,20 @@ fn succeed<D: Disk>(alloc: Global, disk: &mut D, number: u64) -> Result<Journal,
     if number == u64::MAX {
         return Err(at_journal(number, DiskFault::Full));
     }
+    let numbers = journals(alloc, disk, number)?;
     let journal = make_journal(alloc, disk, number + 1)?;
-    remove_journal(alloc, disk, number)?;
+    let count = numbers.len().min(SHED_MAX);
+    let (oldest, _) = numbers.split_at(count);
+    remove_journals(alloc, disk, oldest)?;
     Ok(journal)
 }
 
 impl RecordStore {
-    /// Begins the journal with the next number, on the disk, and only then removes the one before.
-    /// If other files hold each entry that came since the last checkpoint, whatever a crash leaves,
-    /// then no entry has come since; those that waited are committed by these files, and wait no
-    /// more. If they are not held, it promises nothing: write segments first (`add_segment`).
+    /// Begins the journal with the next number, on the disk, and only then removes those before it,
+    /// the oldest first, at most 64: what is left of them the next turns remove. If segments hold
+    /// each entry that came since the last checkpoint, whatever a crash leaves, then no entry has
+    /// come since; those that waited are committed by these segments, and wait no more. If they do
+    /// not, it promises nothing: write segments first (`add_segment`).
     ///
     /// # Errors
     /// The disk's fault, lack of memory, or `Full` if there is no greater number. The folder keeps
@@ -126,19 +157,19 @@ impl RecordStore {
     pub fn turn<D: Disk>(&mut self, alloc: Global, disk: &mut D) -> Result<(), StoreFault>
         ensures turned { OnOk result (D.tells disk.new → (sets : Sets)
             → Stands self.old (D.state disk.old) sets
-            → HeldApart (D.state disk.old) (journal_name (number_of self.old)) sets.since
+            → HeldApart (D.state disk.old) sets.since
             → Stands self.new (D.state disk.new) (turned sets)) }
         ensures err { OnErr result (D.tells disk.new → (sets : Sets)
             → Stands self.old (D.state disk.old) sets
-            → HeldApart (D.state disk.old) (journal_name (number_of self.old)) sets.since
+            → HeldApart (D.state disk.old) sets.since
             → Stands self.new (D.state disk.new) sets) }
 
         // whatever the result is: so at every moment
         ensures segments { D.tells disk.new → SegmentsGrow 0 (D.state disk.old) (D.state disk.new) }
 
         ensures number { OnOk result (number_of self.new ≡ number_of self.old + 1) }
-        ensures removed { OnOk result (D.tells disk.new
-            → journal_shown (D.state disk.new) (number_of self.old) ≡ None) }
+        ensures sheds { OnOk result (D.tells disk.new → IsSound (D.state disk.old)
+            → ShedsOldest 64 (D.state disk.old) (D.state disk.new) (number_of self.old)) }
         ensures breaks { IsErr result ↔ IsBroken self.new }
         ensures told { D.tells disk.new → D.tells disk.old }
         ensures cause { IfErr result (IsCause

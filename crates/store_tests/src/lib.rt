@@ -15,6 +15,8 @@ mod folders;
 #[cfg(test)]
 mod journals;
 #[cfg(test)]
+mod older;
+#[cfg(test)]
 mod reading;
 #[cfg(test)]
 mod records;

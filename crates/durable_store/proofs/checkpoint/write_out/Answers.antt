@@ -1,10 +1,10 @@
 use Rattle.std.proofs.Common.{◌≡◌, ◌⊎◌, ◌+◌, ◌^◌, ℕ, subst}
 use Rattle.archive_pages.specs.Paged.{entries_in}
 use Rattle.record_store.specs.Stores.{IsWhole, number_of}
-use Rattle.record_store.specs.Names.{journal_name}
-use Rattle.record_store.specs.Turns.{turn_causes}
+use Rattle.record_store.specs.Turns.{ShedsOldest, turn_causes}
 use Rattle.record_store.proofs.Causing.{cause_weaker}
 use Rattle.record_store.proofs.Remaining.{grow_then}
+use Rattle.record_store.proofs.Successions.{sheds_beside}
 use Rattle.durable_store.specs.Causes.{StandsWith, turning_causes}
 use Rattle.durable_store.specs.declared.fault.CheckpointFault.TheVariants.{Store}
 use Rattle.durable_store.proofs.Daily.{not_broken, on_err, since_held, still_whole}
@@ -19,10 +19,8 @@ returns-in_err-turn-clause-err g c = on_err c.from_residual-in_err-turn.result (
     let mid = c.write_segments.ensures.stands told sets whole stands among in
     let still = still_whole c.args.store.now c.write_segments.new.store c.in_ok-write_segments.ensures.goes_on whole in
     c.in_err-turn.ensures.err tells sets mid
-    (since_held (g.D.Disk.state c.write_segments.new.disk) (journal_name (number_of c.write_segments.new.store))
-    (entries_in c.args.set.now) sets.since
-    (c.in_ok-write_segments.ensures.held told sets whole stands among (number_of c.write_segments.new.store)
-    (mid.ready still).small) since))
+    (since_held (g.D.Disk.state c.write_segments.new.disk) (entries_in c.args.set.now) sets.since
+    (c.in_ok-write_segments.ensures.held told sets whole stands among) since))
 
 pub returns-clause-done : goal.returns-clause-done
 returns-clause-done g c tells sets stands among since =
@@ -31,10 +29,8 @@ returns-clause-done g c tells sets stands among since =
     let mid = c.write_segments.ensures.stands told sets whole stands among in
     let still = still_whole c.args.store.now c.write_segments.new.store c.in_ok-write_segments.ensures.goes_on whole in
     c.in_ok-turn.ensures.turned tells sets mid
-    (since_held (g.D.Disk.state c.write_segments.new.disk) (journal_name (number_of c.write_segments.new.store))
-    (entries_in c.args.set.now) sets.since
-    (c.in_ok-write_segments.ensures.held told sets whole stands among (number_of c.write_segments.new.store)
-    (mid.ready still).small) since)
+    (since_held (g.D.Disk.state c.write_segments.new.disk) (entries_in c.args.set.now) sets.since
+    (c.in_ok-write_segments.ensures.held told sets whole stands among) since)
 
 pub returns-in_err-write_segments-clause-cause : goal.returns-in_err-write_segments-clause-cause
 returns-in_err-write_segments-clause-cause g c =
@@ -73,17 +69,34 @@ returns-in_err-turn-clause-cause g c =
 
 pub returns-in_err-write_segments-clause-segments : goal.returns-in_err-write_segments-clause-segments
 returns-in_err-write_segments-clause-segments g c tells with =
-    c.write_segments.ensures.segments tells (not_broken c.args.store.now c.is_broken.result c.is_broken.ensures
-    c.if-is_broken.false) with
+    let beside = c.write_segments.ensures.segments tells (not_broken c.args.store.now c.is_broken.result
+    c.is_broken.ensures c.if-is_broken.false) with in
+    beside.grow
 
 pub returns-in_err-turn-clause-segments : goal.returns-in_err-turn-clause-segments
 returns-in_err-turn-clause-segments g c tells with =
     let whole = not_broken c.args.store.now c.is_broken.result c.is_broken.ensures c.if-is_broken.false in
+    let beside = c.write_segments.ensures.segments (c.turn.ensures.told tells) whole with in
     grow_then 65 0 (g.D.Disk.state c.args.disk.now) (g.D.Disk.state c.write_segments.new.disk) (g.D.Disk.state c.turn.new.disk)
-    (c.write_segments.ensures.segments (c.turn.ensures.told tells) whole with) (c.turn.ensures.segments tells)
+    beside.grow (c.turn.ensures.segments tells)
 
 pub returns-clause-segments : goal.returns-clause-segments
 returns-clause-segments g c tells with =
     let whole = not_broken c.args.store.now c.is_broken.result c.is_broken.ensures c.if-is_broken.false in
+    let beside = c.write_segments.ensures.segments (c.turn.ensures.told tells) whole with in
     grow_then 65 0 (g.D.Disk.state c.args.disk.now) (g.D.Disk.state c.write_segments.new.disk) (g.D.Disk.state c.turn.new.disk)
-    (c.write_segments.ensures.segments (c.turn.ensures.told tells) whole with) (c.turn.ensures.segments tells)
+    beside.grow (c.turn.ensures.segments tells)
+
+pub returns-clause-sheds : goal.returns-clause-sheds
+returns-clause-sheds g c tells with =
+    let told = c.turn.ensures.told tells in
+    let store = c.args.store.now in
+    let whole = not_broken store c.is_broken.result c.is_broken.ensures c.if-is_broken.false in
+    let beside = c.write_segments.ensures.segments told whole with in
+    let mid = c.write_segments.ensures.stands told with.0 whole with.1 with.2 in
+    let still = still_whole store c.write_segments.new.store c.in_ok-write_segments.ensures.goes_on whole in
+    let stood = with.1.ready whole in
+    sheds_beside (g.D.Disk.state c.args.disk.now) (g.D.Disk.state c.write_segments.new.disk)
+    (g.D.Disk.state c.turn.new.disk) (number_of store) stood.small beside.journals
+    (subst (ShedsOldest 64 (g.D.Disk.state c.write_segments.new.disk) (g.D.Disk.state c.turn.new.disk))
+    c.write_segments.ensures.number (c.in_ok-turn.ensures.sheds tells (mid.ready still).stands.sound))

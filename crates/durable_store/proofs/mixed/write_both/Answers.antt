@@ -2,7 +2,7 @@ use Rattle.std.proofs.Common.{arith}
 use Rattle.archive_pages.specs.Paged.{entries_in}
 use Rattle.journal.specs.Journals.{IsSound}
 use Rattle.record_store.specs.Stores.{IsWhole}
-use Rattle.record_store.proofs.Remaining.{grow_less, grow_then}
+use Rattle.record_store.proofs.Remaining.{beside_less, beside_then}
 use Rattle.durable_store.specs.Causes.{StandsWith}
 use Rattle.durable_store.proofs.Daily.{all_held, both_held, days_then_sound, err_weaker, on_ok_weaker}
 use Rattle.durable_store.proofs.Failing.{writing_less}
@@ -11,13 +11,13 @@ use Rattle.durable_store.proofs.mixed.write_both.Goals as goal
 
 pub returns-in_err-write_days-clause-segments : goal.returns-in_err-write_days-clause-segments
 returns-in_err-write_days-clause-segments g c tells whole with =
-    grow_less 64 65 (g.D.Disk.state c.args.disk.now) (g.D.Disk.state c.write_days.new.disk) (omega arith)
+    beside_less 64 65 (g.D.Disk.state c.args.disk.now) (g.D.Disk.state c.write_days.new.disk) (omega arith)
     (grows_set c.args.set.now c.set_len-total.result c.set_len-total.ensures (g.D.Disk.state c.args.disk.now)
     (g.D.Disk.state c.write_days.new.disk) (c.write_days.ensures.grows tells whole with))
 
 pub returns-clause-segments : goal.returns-clause-segments
 returns-clause-segments g c tells whole with =
-    grow_less 64 65 (g.D.Disk.state c.args.disk.now) (g.D.Disk.state c.write_days.new.disk) (omega arith)
+    beside_less 64 65 (g.D.Disk.state c.args.disk.now) (g.D.Disk.state c.write_days.new.disk) (omega arith)
     (grows_set c.args.set.now c.set_len-total.result c.set_len-total.ensures (g.D.Disk.state c.args.disk.now)
     (g.D.Disk.state c.write_days.new.disk) (c.write_days.ensures.grows tells whole with))
 
@@ -56,7 +56,7 @@ returns-then-branch-clause-segments g c tells whole with =
     let zero = g.D.Disk.state c.args.disk.now in
     let one = g.D.Disk.state c.write_days.new.disk in
     let told = c.write_mixed.ensures.told tells in
-    grow_then 64 1 zero one (g.D.Disk.state c.write_mixed.new.disk)
+    beside_then 64 1 zero one (g.D.Disk.state c.write_mixed.new.disk)
     (grows_set c.args.set.now c.set_len-total.result c.set_len-total.ensures zero one
     (c.write_days.ensures.grows told whole with))
     (c.write_mixed.ensures.segments tells

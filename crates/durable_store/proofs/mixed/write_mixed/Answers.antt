@@ -4,7 +4,7 @@ use Rattle.archive_pages.specs.Paged.{entries_in}
 use Rattle.archive_text.specs.Text.{text_of}
 use Rattle.journal.specs.Journals.{IsSound}
 use Rattle.record_store.specs.Segments.{Drafts}
-use Rattle.record_store.proofs.Remaining.{grow_less}
+use Rattle.record_store.proofs.Remaining.{beside_less}
 use Rattle.durable_store.specs.Segments.{KeepsAside}
 use Rattle.durable_store.specs.declared.fault.CheckpointFault.TheVariants.{Segment}
 use Rattle.durable_store.proofs.Daily.{aside_on, aside_then, kept_grow, kept_held, kept_stands, kept_still}
@@ -32,7 +32,7 @@ returns-in_err-put_mixed-clause-segments g c tells sound =
     let one = g.D.Disk.state c.begin.new.disk in
     let two = g.D.Disk.state c.put_mixed.new.disk in
     let told = c.put_mixed.ensures.told tells in
-    grow_less 0 1 zero two (omega arith)
+    beside_less 0 1 zero two (omega arith)
     (aside_grow zero two c.in_ok-draft_name.field-0
     (aside_then zero one two c.in_ok-draft_name.field-0
     (record { others = c.begin.ensures.others told; lost = c.begin.ensures.lost told })
@@ -43,7 +43,7 @@ pub returns-in_err-draft-clause-segments : goal.returns-in_err-draft-clause-segm
 returns-in_err-draft-clause-segments g c tells sound =
     let zero = g.D.Disk.state c.args.disk.now in
     let one = g.D.Disk.state c.begin.new.disk in
-    grow_less 0 1 zero one (omega arith)
+    beside_less 0 1 zero one (omega arith)
     (aside_grow zero one c.in_ok-draft_name.field-0
     (record { others = c.begin.ensures.others tells; lost = c.begin.ensures.lost tells }) c.in_ok-draft_name.ensures.apart)
 

@@ -1,7 +1,7 @@
 use Rattle.record_store.specs.Names.{draft_name}
 use Rattle.record_store.specs.Stores.{IsWhole}
 use Rattle.record_store.proofs.Named.{draft_apart}
-use Rattle.record_store.proofs.Remaining.{grow_then}
+use Rattle.record_store.proofs.Remaining.{beside_then}
 use Rattle.archive_pages.specs.Paged.{entries_in}
 use Rattle.durable_store.specs.Causes.{StandsWith}
 use Rattle.durable_store.proofs.Daily.{aside_on}
@@ -17,7 +17,7 @@ returns-in-Err-clause-stands g c tells sets whole stands among =
 
 pub returns-in-Err-clause-segments : goal.returns-in-Err-clause-segments
 returns-in-Err-clause-segments g c tells whole with =
-    grow_then 65 0 (g.D.Disk.state c.args.disk.now) (g.D.Disk.state c.write_both.new.disk)
+    beside_then 65 0 (g.D.Disk.state c.args.disk.now) (g.D.Disk.state c.write_both.new.disk)
     (g.D.Disk.state c.drop_draft.new.disk)
     (c.write_both.ensures.segments (c.drop_draft.ensures.told tells) whole with)
     (aside_grow (g.D.Disk.state c.write_both.new.disk) (g.D.Disk.state c.drop_draft.new.disk) draft_name

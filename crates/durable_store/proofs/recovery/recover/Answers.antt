@@ -1,42 +1,118 @@
-use Rattle.std.proofs.Common.{List, subst, sym, ℕ}
-use Rattle.journal.specs.Journals.{EndsAt}
+use Rattle.std.proofs.Common.{◌≡◌, ◌+◌, ◌<◌, ◌^◌, List, ℕ, [], ◌∷◌, ◌++◌, arith, take, sym, ap, subst, ◌∙◌, rules}
+use Rattle.std.specs.Prelude.{Contains, slice_index}
+use Rattle.std.proofs.lemmas.Grind.{common_steps}
+use Rattle.std.specs.List.Sorted.{IsStrictlyIncreasing}
+use Rattle.std.proofs.lemmas.List.{take_all, take_more}
+use Rattle.std.proofs.lemmas.List.Elements.{Contains-push}
 use Rattle.archive_pages.specs.Paged.{entries_in}
-use Rattle.record_store.specs.Shown.{IsNewestShown}
+use Rattle.record_store.specs.Causes.{IsCause, listing_causes, opening_causes}
+use Rattle.record_store.proofs.Causing.{cause_weaker}
+use Rattle.record_store.proofs.Compared.{same_then}
+use Rattle.record_store.proofs.Numbers.{increasing_take, take_part}
 use Rattle.durable_store.specs.Causes.{IsOpeningCause}
-use Rattle.durable_store.proofs.Newest.{at_none, at_some, found_recovered, none_recovered}
-use Rattle.durable_store.proofs.Readable.{at_err, opening_refuted}
+use Rattle.durable_store.specs.declared.fault.OpenFault.TheVariants.{Store}
+use Rattle.durable_store.proofs.Journals.{ReadSo, all_recovered, all_tails, one_is_shown, read_more, read_none}
+use Rattle.durable_store.proofs.Journals.{reading_fails, unchanged_journal}
+use Rattle.durable_store.proofs.Readable.{at_err}
 use Rattle.durable_store.proofs.recovery.recover.Goals as goal
 
-pub returns-in_err-end-clause-cause : goal.returns-in_err-end-clause-cause
-returns-in_err-end-clause-cause g c =
-    let tells_then = g.D.Disk.tells c.newest_journal.new.disk in
-    let failed_then = g.D.Disk.has_failed c.newest_journal.new.disk in
-    let zero = g.D.Disk.state c.args.disk.now in
-    let fault = c.in_err-end.field-0.0 in
-    at_err c.from_residual-in_err-end.result fault (IsOpeningCause tells_then failed_then zero)
-    c.from_residual-in_err-end.ensures.1
-    (opening_refuted tells_then failed_then zero c.in-Some.number c.deref.result.now fault
-    (λ tells sound. subst (IsNewestShown zero c.in-Some.number) (sym c.deref.ensures.value)
-    (at_some c.in_ok-number.field-0 _ _ c.in-Some.is c.in_ok-number.ensures.some tells sound))
-    c.in_err-end.ensures.fault)
+pub loop-number-init : goal.loop-number-init
+loop-number-init g c = record {
+  told = λ tells. c.journals.ensures.told tells;
+  same = λ tells. c.journals.ensures.same tells;
+  shown = λ tells sound. c.in_ok-numbers.ensures.shown tells sound;
+  read = λ tells sound. subst (λ l. ReadSo (g.D.Disk.state c.args.disk.now) [] (entries_in c.new-set.result) l)
+      (sym c.new-tails.ensures.items)
+      (read_none (g.D.Disk.state c.args.disk.now) (entries_in c.new-set.result) c.new-set.ensures);
+}
 
-pub returns-in_default-clause-recovered : goal.returns-in_default-clause-recovered
-returns-in_default-clause-recovered g c tells sound =
-    none_recovered (g.D.Disk.state c.args.disk.now) (entries_in c.new-set.result) c.new-set.ensures
-    (at_none c.in_ok-number.field-0 _ c.in_default.is c.in_ok-number.ensures.none tells sound)
+pub loop-number-preserved : goal.loop-number-preserved
+loop-number-preserved g c =
+    let zero = g.D.Disk.state c.args.disk.now in
+    let one = g.D.Disk.state c.loop-number.disk in
+    let numbers = c.in_ok-numbers.numbers.items in
+    let index = c.loop-number.number-index in
+    let first = take index numbers in
+    let number = slice_index numbers index in
+    let small : number < 2 ^ 64 = first_of (omega arith, search rules, grind (arith, common_steps)) in
+    let more = take_more numbers index 0 c.loop-number-test.true in
+    record {
+      told = λ tells. c.loop-number.invariant.told (c.add_journal.ensures.told tells);
+      same = λ tells.
+          let told = c.add_journal.ensures.told tells in
+          same_then zero one (g.D.Disk.state c.add_journal.new.disk) (c.loop-number.invariant.same told)
+          (c.add_journal.ensures.same tells);
+      shown = λ tells. c.loop-number.invariant.shown (c.add_journal.ensures.told tells);
+      read = λ tells sound.
+          let told = c.add_journal.ensures.told tells in
+          let same = c.loop-number.invariant.same told in
+          let are = c.loop-number.invariant.shown told sound in
+          let there = one_is_shown zero 18446744073709551615 numbers number are
+          (take_part (index + 1) numbers number
+          (subst (λ (l : List ℕ). Contains l number) (sym more) (Contains-push first number))) in
+          subst (λ (l : List ℕ). ReadSo zero l (entries_in c.add_journal.new.set) c.add_journal.new.tails.items) (sym more)
+          (read_more zero first (entries_in c.loop-number.set) (entries_in c.add_journal.new.set)
+          c.loop-number.tails.items number there.0 small (c.loop-number.invariant.read told sound) there.1
+          (subst IsStrictlyIncreasing more (increasing_take (index + 1) numbers are.ascend))
+          c.add_journal.new.tails.items
+          (c.in_ok-add_journal.ensures.adds tells (same.lost ∙ sound) there.0
+          (unchanged_journal zero one number same ∙ there.1)));
+    }
 
 pub returns-clause-recovered : goal.returns-clause-recovered
 returns-clause-recovered g c tells sound =
-    found_recovered (g.D.Disk.state c.args.disk.now) c.in-Some.number c.in-Some.octets.items c.deref.result.now
-    (entries_in c.new-set.result) (entries_in c.add_batches.new.set)
-    (at_some c.in_ok-number.field-0 _ _ c.in-Some.is c.in_ok-number.ensures.some tells sound)
-    c.new-set.ensures c.deref.ensures.value c.in_ok-end.ensures.adds c.in_ok-end.ensures.whole
+    let numbers = c.in_ok-numbers.numbers.items in
+    all_recovered (g.D.Disk.state c.args.disk.now) 18446744073709551615 numbers (entries_in c.loop-number.set)
+    c.loop-number.tails.items (omega arith) (c.loop-number.invariant.shown tells sound)
+    (subst (λ (l : List ℕ). ReadSo (g.D.Disk.state c.args.disk.now) l (entries_in c.loop-number.set)
+    c.loop-number.tails.items) (take_all c.loop-number.number-index numbers c.loop-number-test.false)
+    (c.loop-number.invariant.read tells sound))
 
-pub returns-clause-read : goal.returns-clause-read
-returns-clause-read g c tells sound =
-    let ends = c.in_ok-end.ensures.ends in
-    record {
-      newest = at_some c.in_ok-number.field-0 _ _ c.in-Some.is c.in_ok-number.ensures.some tells sound;
-      bodies = ends.0;
-      ends = subst (λ (l : List ℕ). EndsAt l ends.0 c.in_ok-end.end) c.deref.ensures.value ends.1;
-    }
+pub returns-clause-tails : goal.returns-clause-tails
+returns-clause-tails g c tells sound =
+    let numbers = c.in_ok-numbers.numbers.items in
+    all_tails (g.D.Disk.state c.args.disk.now) 18446744073709551615 numbers (entries_in c.loop-number.set)
+    c.loop-number.tails.items (omega arith) (c.loop-number.invariant.shown tells sound)
+    (subst (λ (l : List ℕ). ReadSo (g.D.Disk.state c.args.disk.now) l (entries_in c.loop-number.set)
+    c.loop-number.tails.items) (take_all c.loop-number.number-index numbers c.loop-number-test.false)
+    (c.loop-number.invariant.read tells sound))
+
+pub returns-in_err-add_journal-clause-same : goal.returns-in_err-add_journal-clause-same
+returns-in_err-add_journal-clause-same g c tells =
+    let told = c.add_journal.ensures.told tells in
+    same_then (g.D.Disk.state c.args.disk.now) (g.D.Disk.state c.loop-number.disk) (g.D.Disk.state c.add_journal.new.disk)
+    (c.loop-number.invariant.same told) (c.add_journal.ensures.same tells)
+
+pub returns-in_err-numbers-clause-cause : goal.returns-in_err-numbers-clause-cause
+returns-in_err-numbers-clause-cause g c =
+    let tells_then = g.D.Disk.tells c.journals.new.disk in
+    let failed_then = g.D.Disk.has_failed c.journals.new.disk in
+    let zero = g.D.Disk.state c.args.disk.now in
+    let fault = c.in_err-numbers.field-0.0 in
+    at_err c.from_residual.result (Store fault) (IsOpeningCause tells_then failed_then zero) c.from_residual.ensures.1
+    (cause_weaker (listing_causes tells_then failed_then) (opening_causes tells_then failed_then zero)
+    (λ failed. failed) (λ full. full) (λ other tells sound. absurd (other tells)) (λ long. absurd long)
+    (λ broken. broken) fault c.in_err-numbers.ensures.cause)
+
+pub returns-in_err-add_journal-clause-cause : goal.returns-in_err-add_journal-clause-cause
+returns-in_err-add_journal-clause-cause g c =
+    let tells_then = g.D.Disk.tells c.add_journal.new.disk in
+    let failed_then = g.D.Disk.has_failed c.add_journal.new.disk in
+    let zero = g.D.Disk.state c.args.disk.now in
+    let one = g.D.Disk.state c.loop-number.disk in
+    let numbers = c.in_ok-numbers.numbers.items in
+    let index = c.loop-number.number-index in
+    let first = take index numbers in
+    let number = slice_index numbers index in
+    let small : number < 2 ^ 64 = first_of (omega arith, search rules, grind (arith, common_steps)) in
+    let more = take_more numbers index 0 c.loop-number-test.true in
+    let fault = c.in_err-add_journal.field-0.0 in
+    at_err c.from_residual-in_err-add_journal.result fault (IsOpeningCause tells_then failed_then zero)
+    c.from_residual-in_err-add_journal.ensures.1
+    (reading_fails tells_then failed_then zero one number fault small
+    (λ tells. c.loop-number.invariant.same (c.add_journal.ensures.told tells))
+    (λ tells sound. one_is_shown zero 18446744073709551615 numbers number
+    (c.loop-number.invariant.shown (c.add_journal.ensures.told tells) sound)
+    (take_part (index + 1) numbers number
+    (subst (λ (l : List ℕ). Contains l number) (sym more) (Contains-push first number))))
+    c.in_err-add_journal.ensures.cause)

@@ -3,6 +3,7 @@ use Rattle.std.proofs.lemmas.Result.{IfOk-weaker, err_from_is_err_and, on_ok_wea
 use Rattle.std.specs.Prelude.{Option, Some, None, IfErr}
 use Rattle.record_store.specs.Causes.{IsCause, first_causes, newest_causes, opening_causes}
 use Rattle.record_store.specs.Names.{IsNewest}
+use Rattle.record_store.proofs.Apart.{unchanged_within}
 use Rattle.record_store.proofs.Asides.{files_after, files_unchanged}
 use Rattle.record_store.proofs.Batches.{nothing_has}
 use Rattle.record_store.proofs.Causing.{cause_weaker, disk_cause, result_weaker}
@@ -40,12 +41,13 @@ returns-in-Some-clause-opened g c =
     let small : number < 2 ^ 64 = omega arith in
     let newest = subst (λ (l : List (List ℕ)). IsNewest l (Some number)) c.deref.ensures.value
     (subst (λ (o : Option ℕ). IsNewest c.deref.result.now o) c.in-Some.is c.newest.ensures) in
-    IfOk-weaker c.open_journal.result _ _ (λ r opens tells sound committed received since keeps among are.
+    IfOk-weaker c.open_journal.result _ _ (λ r opens tells sound committed received since keeps among within are.
     let told = c.open_journal.ensures.told tells in
     let same = c.names.ensures.done told in
     let found = newest_of zero c.in-Ok.names.items sound (c.in-Ok.ensures.names told) number small newest in
     opens tells (same.lost ∙ sound) found.0 (newest_still zero one same number found.0 found.1) committed received since
-    (unchanged_keeps zero one same committed received keeps) among are) c.open_journal.ensures.opened
+    (unchanged_keeps zero one same committed received keeps) among (unchanged_within zero one same since within) are)
+    c.open_journal.ensures.opened
 
 pub returns-in-Some-clause-newest : goal.returns-in-Some-clause-newest
 returns-in-Some-clause-newest g c =
@@ -182,7 +184,7 @@ returns-clause-shows g c tells sound since within =
     c.begin.ensures.shows tells none since
 
 pub returns-clause-opened : goal.returns-clause-opened
-returns-clause-opened g c tells sound committed received since keeps among are =
+returns-clause-opened g c tells sound committed received since keeps among within are =
     let zero = g.D.Disk.state c.args.disk.now in
     let one = g.D.Disk.state c.names.new.self in
     let newest = subst (λ (l : List (List ℕ)). IsNewest l None) c.deref.ensures.value
@@ -267,3 +269,44 @@ returns-in-Some-clause-sound g c =
     let found = newest_of zero c.in-Ok.names.items sound (c.in-Ok.ensures.names told) number small newest in
     sounds tells (same.lost ∙ sound) found.0 (newest_still zero one same number found.0 found.1))
     c.open_journal.ensures.sound
+
+pub returns-in-Err-clause-older : goal.returns-in-Err-clause-older
+returns-in-Err-clause-older g c tells sound since within =
+    unchanged_within (g.D.Disk.state c.args.disk.now) (g.D.Disk.state c.names.new.self) (c.names.ensures.done tells) since
+    within
+
+pub returns-in-Some-clause-older : goal.returns-in-Some-clause-older
+returns-in-Some-clause-older g c tells sound since within =
+    let zero = g.D.Disk.state c.args.disk.now in
+    let one = g.D.Disk.state c.names.new.self in
+    let number = c.in-Some.number in
+    let small : number < 2 ^ 64 = omega arith in
+    let newest = subst (λ (l : List (List ℕ)). IsNewest l (Some number)) c.deref.ensures.value
+    (subst (λ (o : Option ℕ). IsNewest c.deref.result.now o) c.in-Some.is c.newest.ensures) in
+    let told = c.open_journal.ensures.told tells in
+    let same = c.names.ensures.done told in
+    let found = newest_of zero c.in-Ok.names.items sound (c.in-Ok.ensures.names told) number small newest in
+    c.open_journal.ensures.older tells (same.lost ∙ sound) found.0
+    (newest_still zero one same number found.0 found.1) since (unchanged_within zero one same since within)
+
+pub returns-in_err-begin-in-None-clause-older : goal.returns-in_err-begin-in-None-clause-older
+returns-in_err-begin-in-None-clause-older g c tells sound since within =
+    let zero = g.D.Disk.state c.args.disk.now in
+    let one = g.D.Disk.state c.names.new.self in
+    let newest = subst (λ (l : List (List ℕ)). IsNewest l None) c.deref.ensures.value
+    (subst (λ (o : Option ℕ). IsNewest c.deref.result.now o) c.in-None.is c.newest.ensures) in
+    let told = c.begin.ensures.told tells in
+    let same = c.names.ensures.done told in
+    let none = none_still zero one same (none_newest zero c.in-Ok.names.items sound (c.in-Ok.ensures.names told) newest) in
+    c.begin.ensures.older tells none since
+
+pub returns-clause-older : goal.returns-clause-older
+returns-clause-older g c tells sound since within =
+    let zero = g.D.Disk.state c.args.disk.now in
+    let one = g.D.Disk.state c.names.new.self in
+    let newest = subst (λ (l : List (List ℕ)). IsNewest l None) c.deref.ensures.value
+    (subst (λ (o : Option ℕ). IsNewest c.deref.result.now o) c.in-None.is c.newest.ensures) in
+    let told = c.begin.ensures.told tells in
+    let same = c.names.ensures.done told in
+    let none = none_still zero one same (none_newest zero c.in-Ok.names.items sound (c.in-Ok.ensures.names told) newest) in
+    c.begin.ensures.older tells none since

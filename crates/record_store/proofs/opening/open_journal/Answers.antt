@@ -3,12 +3,13 @@ use Rattle.record_store.specs.Causes.{newest_causes, shown_causes}
 use Rattle.record_store.specs.Shown.{ShowsTheBatches}
 use Rattle.record_store.proofs.Asides.{named_journal, others_files}
 use Rattle.record_store.proofs.Causing.{journal_weaker}
-use Rattle.record_store.proofs.Opened.{newest_is_journal, newest_shown, opened_gives, opened_stands}
+use Rattle.record_store.proofs.Opened.{newest_is_journal, newest_shown, opened_gives, opened_older}
+use Rattle.record_store.proofs.Opened.{opened_stands}
 use Rattle.record_store.proofs.Showing.{batches_within}
 use Rattle.record_store.proofs.opening.open_journal.Goals as goal
 
 pub returns-in-Ok-clause-opened : goal.returns-in-Ok-clause-opened
-returns-in-Ok-clause-opened g c tells sound octets newest committed received since keeps among are =
+returns-in-Ok-clause-opened g c tells sound octets newest committed received since keeps among within are =
     let zero = g.D.Disk.state c.args.disk.now in
     let new = g.D.Disk.state c.open_shown.new.disk in
     let number = c.args.number in
@@ -16,8 +17,11 @@ returns-in-Ok-clause-opened g c tells sound octets newest committed received sin
     let named = c.in_ok-name.ensures in
     let is = newest_is_journal zero new number octets newest name named in
     let shown = newest_shown zero new number octets newest name named in
+    let older = opened_older zero new number octets newest name named since (c.open_shown.ensures.others tells)
+    (c.open_shown.ensures.shows tells sound octets shown) within in
     opened_stands zero new number octets newest name named _ committed received since c.in-Ok.batches.items
-    (c.open_shown.ensures.any_moment tells sound is octets shown committed received keeps) among refl c.in-Ok.ensures.name
+    (c.open_shown.ensures.any_moment tells sound is octets shown committed received keeps) among older refl
+    c.in-Ok.ensures.name
     c.new.ensures.items (c.in-Ok.ensures.settles tells sound) (c.in-Ok.ensures.opened tells sound octets shown) are
 
 pub returns-in-Ok-clause-gives : goal.returns-in-Ok-clause-gives
@@ -81,7 +85,8 @@ returns-in-Err-clause-cause g c =
     (λ long tells sound octets newest. record {
       number = c.args.number;
       octets = octets;
-      newest = newest;
+      small = newest.small;
+      shown = newest.shown;
       long = long tells sound octets (newest_shown zero new c.args.number octets newest name c.in_ok-name.ensures);
     })
     c.in-Err.fault c.in-Err.ensures.cause
@@ -106,3 +111,23 @@ returns-in-Ok-clause-sound g c tells sound octets newest =
     let shown = newest_shown zero new c.args.number octets newest name c.in_ok-name.ensures in
     let opens = c.in-Ok.ensures.opened tells sound octets shown in
     opens.stands.sound
+
+pub returns-in-Ok-clause-older : goal.returns-in-Ok-clause-older
+returns-in-Ok-clause-older g c tells sound octets newest since within =
+    let zero = g.D.Disk.state c.args.disk.now in
+    let new = g.D.Disk.state c.open_shown.new.disk in
+    let name = c.in_ok-name.name in
+    let named = c.in_ok-name.ensures in
+    let shown = newest_shown zero new c.args.number octets newest name named in
+    opened_older zero new c.args.number octets newest name named since (c.open_shown.ensures.others tells)
+    (c.open_shown.ensures.shows tells sound octets shown) within
+
+pub returns-in-Err-clause-older : goal.returns-in-Err-clause-older
+returns-in-Err-clause-older g c tells sound octets newest since within =
+    let zero = g.D.Disk.state c.args.disk.now in
+    let new = g.D.Disk.state c.open_shown.new.disk in
+    let name = c.in_ok-name.name in
+    let named = c.in_ok-name.ensures in
+    let shown = newest_shown zero new c.args.number octets newest name named in
+    opened_older zero new c.args.number octets newest name named since (c.open_shown.ensures.others tells)
+    (c.open_shown.ensures.shows tells sound octets shown) within

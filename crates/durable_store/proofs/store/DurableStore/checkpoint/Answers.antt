@@ -40,3 +40,7 @@ pub returns-in-Err-clause-few : goal.returns-in-Err-clause-few
 returns-in-Err-clause-few g c tells known =
     (c.write_out.ensures.segments tells
     (known.0, known.1.journal, λ e has. known.1.journal.within e ((known.1.held e).0 has)))
+
+pub returns-in-Ok-clause-sheds : goal.returns-in-Ok-clause-sheds
+returns-in-Ok-clause-sheds g c tells known =
+    c.in-Ok.ensures.sheds tells (known.0, known.1.journal, λ e has. known.1.journal.within e ((known.1.held e).0 has))

@@ -17,7 +17,7 @@ returns-clause-finished g c tells text drafts apart =
     (c.in_ok-place.ensures.placed tells file.0 file.1 differs)
 
 pub returns-clause-held : goal.returns-clause-held
-returns-clause-held g c tells es received of number small =
+returns-clause-held g c tells es received of =
     let zero = g.D.Disk.state c.args.disk.now in
     let new = g.D.Disk.state c.place.new.disk in
     let named : c.in-Some.name ≡ segment_name c.args.day.now of.text =
@@ -26,7 +26,7 @@ returns-clause-held g c tells es received of number small =
     let file = shows_of zero c.args.self.name of.text of.drafts.shown of.drafts.sound in
     let segment = rw c.in-Some.is at c.in_ok-name.ensures.segment in
     let differs = name_apart c.args.self.name c.args.day.now c.in-Some.name segment of.apart in
-    segment_held c.in-Some.name c.args.day.now of.text es segment of.is new number small
+    segment_held c.in-Some.name c.args.day.now of.text es segment of.is new
     (subst (λ (t : List ℕ). IsOnDisk new c.in-Some.name t) file.2
     (c.in_ok-place.ensures.placed tells file.0 file.1 differs))
 
@@ -54,7 +54,7 @@ returns-in_err-place-clause-journals g c tells apart =
     c.args.day.now segment apart (c.place.ensures.others tells)
 
 pub returns-in_err-place-clause-still_held : goal.returns-in_err-place-clause-still_held
-returns-in_err-place-clause-still_held g c tells es received of name others holds =
+returns-in_err-place-clause-still_held g c tells es received of others holds =
     let zero = g.D.Disk.state c.args.disk.now in
     let new = g.D.Disk.state c.place.new.disk in
     let named : c.in-Some.name ≡ segment_name c.args.day.now of.text =
@@ -67,7 +67,7 @@ returns-in_err-place-clause-still_held g c tells es received of name others hold
     (shows_no_more zero c.in-Some.name es
     (subst (λ (n : List ℕ). HoldsNoMore zero n es) (sym named) of.no_more)) of.apart
     (subst (λ (t : List ℕ). LeavesOldOr zero new c.in-Some.name t) file.2
-    (c.place.ensures.any_moment tells file.0 file.1 differs)) (c.place.ensures.others tells) name others
+    (c.place.ensures.any_moment tells file.0 file.1 differs)) (c.place.ensures.others tells) others
     holds
 
 pub returns-clause-any_moment : goal.returns-clause-any_moment
@@ -94,7 +94,7 @@ returns-clause-journals g c tells apart =
     c.args.day.now segment apart (c.place.ensures.others tells)
 
 pub returns-clause-still_held : goal.returns-clause-still_held
-returns-clause-still_held g c tells es received of name others holds =
+returns-clause-still_held g c tells es received of others holds =
     let zero = g.D.Disk.state c.args.disk.now in
     let new = g.D.Disk.state c.place.new.disk in
     let named : c.in-Some.name ≡ segment_name c.args.day.now of.text =
@@ -107,5 +107,5 @@ returns-clause-still_held g c tells es received of name others holds =
     (shows_no_more zero c.in-Some.name es
     (subst (λ (n : List ℕ). HoldsNoMore zero n es) (sym named) of.no_more)) of.apart
     (subst (λ (t : List ℕ). LeavesOldOr zero new c.in-Some.name t) file.2
-    (c.place.ensures.any_moment tells file.0 file.1 differs)) (c.place.ensures.others tells) name others
+    (c.place.ensures.any_moment tells file.0 file.1 differs)) (c.place.ensures.others tells) others
     holds

@@ -7,7 +7,7 @@ use Rattle.record_store.specs.Segments.{segment_name}
 use Rattle.record_store.proofs.Compared.{brought_journals, brought_keeps, brought_still}
 use Rattle.record_store.proofs.Differing.{taken_stays}
 use Rattle.record_store.proofs.Drafted.{name_apart, segment_held, shows_of}
-use Rattle.record_store.proofs.Remaining.{brought_grow}
+use Rattle.record_store.proofs.Remaining.{brought_beside}
 use Rattle.record_store.proofs.segment.SegmentDraft.keep.Goals as goal
 
 pub returns-in_err-bring-clause-any_moment : goal.returns-in_err-bring-clause-any_moment
@@ -34,7 +34,7 @@ returns-in_err-bring-clause-journals g c tells es received of =
     brought_journals zero new c.args.self.name c.in-Some.name c.args.day.now of.text es segment of.is of.apart brings
 
 pub returns-in_err-bring-clause-still_held : goal.returns-in_err-bring-clause-still_held
-returns-in_err-bring-clause-still_held g c tells es received of name others holds =
+returns-in_err-bring-clause-still_held g c tells es received of others holds =
     let zero = g.D.Disk.state c.args.disk.now in
     let new = g.D.Disk.state c.bring.new.disk in
     let file = shows_of zero c.args.self.name of.text of.drafts.shown of.drafts.sound in
@@ -43,7 +43,7 @@ returns-in_err-bring-clause-still_held g c tells es received of name others hold
     let brings = subst (λ (t : List ℕ). Brings zero new c.args.self.name c.in-Some.name t) file.2
     (c.bring.ensures.any_moment tells file.0 file.1 differs) in
     brought_still zero new c.args.self.name c.in-Some.name c.args.day.now of.text es segment of.is of.apart brings
-    name others holds
+    others holds
 
 pub returns-then-branch-clause-any_moment : goal.returns-then-branch-clause-any_moment
 returns-then-branch-clause-any_moment g c tells es committed received of keeps =
@@ -69,7 +69,7 @@ returns-then-branch-clause-journals g c tells es received of =
     brought_journals zero new c.args.self.name c.in-Some.name c.args.day.now of.text es segment of.is of.apart brings
 
 pub returns-then-branch-clause-still_held : goal.returns-then-branch-clause-still_held
-returns-then-branch-clause-still_held g c tells es received of name others holds =
+returns-then-branch-clause-still_held g c tells es received of others holds =
     let zero = g.D.Disk.state c.args.disk.now in
     let new = g.D.Disk.state c.bring.new.disk in
     let file = shows_of zero c.args.self.name of.text of.drafts.shown of.drafts.sound in
@@ -78,7 +78,7 @@ returns-then-branch-clause-still_held g c tells es received of name others holds
     let brings = subst (λ (t : List ℕ). Brings zero new c.args.self.name c.in-Some.name t) file.2
     (c.bring.ensures.any_moment tells file.0 file.1 differs) in
     brought_still zero new c.args.self.name c.in-Some.name c.args.day.now of.text es segment of.is of.apart brings
-    name others holds
+    others holds
 
 pub returns-clause-any_moment : goal.returns-clause-any_moment
 returns-clause-any_moment g c tells es committed received of keeps =
@@ -104,7 +104,7 @@ returns-clause-journals g c tells es received of =
     brought_journals zero new c.args.self.name c.in-Some.name c.args.day.now of.text es segment of.is of.apart brings
 
 pub returns-clause-still_held : goal.returns-clause-still_held
-returns-clause-still_held g c tells es received of name others holds =
+returns-clause-still_held g c tells es received of others holds =
     let zero = g.D.Disk.state c.args.disk.now in
     let new = g.D.Disk.state c.bring.new.disk in
     let file = shows_of zero c.args.self.name of.text of.drafts.shown of.drafts.sound in
@@ -113,16 +113,16 @@ returns-clause-still_held g c tells es received of name others holds =
     let brings = subst (λ (t : List ℕ). Brings zero new c.args.self.name c.in-Some.name t) file.2
     (c.bring.ensures.any_moment tells file.0 file.1 differs) in
     brought_still zero new c.args.self.name c.in-Some.name c.args.day.now of.text es segment of.is of.apart brings
-    name others holds
+    others holds
 
 pub returns-then-branch-clause-held : goal.returns-then-branch-clause-held
-returns-then-branch-clause-held g c tells es received of number small =
+returns-then-branch-clause-held g c tells es received of =
     let zero = g.D.Disk.state c.args.disk.now in
     let new = g.D.Disk.state c.bring.new.disk in
     let file = shows_of zero c.args.self.name of.text of.drafts.shown of.drafts.sound in
     let segment = rw c.in-Some.is at c.in_ok-name.ensures.segment in
     let differs = name_apart c.args.self.name c.args.day.now c.in-Some.name segment of.apart in
-    segment_held c.in-Some.name c.args.day.now of.text es segment of.is new number small
+    segment_held c.in-Some.name c.args.day.now of.text es segment of.is new
     (subst (λ (t : List ℕ). IsOnDisk new c.in-Some.name t) file.2
     (c.in_ok-bring.ensures.brought c.if-branch.true tells file.0 file.1 differs))
 
@@ -174,7 +174,7 @@ returns-in_err-bring-clause-segments g c tells text drafts apart =
     let differs = name_apart c.args.self.name c.args.day.now c.in-Some.name segment apart in
     let brings = subst (λ (t : List ℕ). Brings zero new c.args.self.name c.in-Some.name t) file.2
     (c.bring.ensures.any_moment tells file.0 file.1 differs) in
-    brought_grow zero new c.args.self.name c.in-Some.name text apart brings
+    brought_beside zero new c.args.self.name c.in-Some.name c.args.day.now text segment apart brings
 
 pub returns-then-branch-clause-segments : goal.returns-then-branch-clause-segments
 returns-then-branch-clause-segments g c tells text drafts apart =
@@ -185,7 +185,7 @@ returns-then-branch-clause-segments g c tells text drafts apart =
     let differs = name_apart c.args.self.name c.args.day.now c.in-Some.name segment apart in
     let brings = subst (λ (t : List ℕ). Brings zero new c.args.self.name c.in-Some.name t) file.2
     (c.bring.ensures.any_moment tells file.0 file.1 differs) in
-    brought_grow zero new c.args.self.name c.in-Some.name text apart brings
+    brought_beside zero new c.args.self.name c.in-Some.name c.args.day.now text segment apart brings
 
 pub returns-clause-segments : goal.returns-clause-segments
 returns-clause-segments g c tells text drafts apart =
@@ -196,4 +196,4 @@ returns-clause-segments g c tells text drafts apart =
     let differs = name_apart c.args.self.name c.args.day.now c.in-Some.name segment apart in
     let brings = subst (λ (t : List ℕ). Brings zero new c.args.self.name c.in-Some.name t) file.2
     (c.bring.ensures.any_moment tells file.0 file.1 differs) in
-    brought_grow zero new c.args.self.name c.in-Some.name text apart brings
+    brought_beside zero new c.args.self.name c.in-Some.name c.args.day.now text segment apart brings

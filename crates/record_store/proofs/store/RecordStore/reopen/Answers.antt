@@ -10,6 +10,7 @@ returns-in-Err-clause-stands g c tells sound sets stands =
     broken_stands c.args.self.now _ zero new sets stands refl refl
     (c.open.ensures.any_moment tells sound sets.committed sets.received stands.keeps)
     (λ still. c.open.ensures.shows tells sound sets.since (stands.shows sound))
+    (λ still. c.open.ensures.older tells sound sets.since (stands.older sound))
 
 pub returns-in-Ok-clause-stands : goal.returns-in-Ok-clause-stands
 returns-in-Ok-clause-stands g c tells sound sets stands =
@@ -19,6 +20,7 @@ returns-in-Ok-clause-stands g c tells sound sets stands =
     let whole : opened.broken ≡ false = search rules in
     reopened_stands c.args.self.now opened _ zero new sets stands
     (c.in-Ok.ensures.opened tells sound sets.committed sets.received sets.since stands.keeps stands.within
+    (stands.older sound)
     (λ e has. given_within zero opened.number c.in-Ok._batches.items sets.since e (stands.shows sound)
     (c.in-Ok.ensures.newest tells sound) has))
     whole refl refl refl
