@@ -48,7 +48,7 @@ impl<D: Disk + Drop> DiskKeeper<D> {
     ghost use Rattle.archive_text.specs.Entries.{Entry};
     ghost use Rattle.record_store.specs.Crashes.{Keeps};
     ghost use Rattle.record_store.specs.Stores.{begun};
-    ghost use Rattle.durable_store.specs.Asides.{SetsTailAside, aside_of};
+    ghost use Rattle.durable_store.specs.Asides.{SetsTailsAside, asides_of};
     ghost use Rattle.durable_store.specs.Durables.{IsBroken, Stands, entries_of};
     ghost use Rattle.serve_engine.specs.Keepings.{Kept};
     ghost use Rattle.store_keeper.specs.Keepers.{KeepsOn, disk_of, store_of};
@@ -66,7 +66,7 @@ impl<D: Disk + Drop> DiskKeeper<D> {
             → Stands (store_of keeper) (D.state (disk_of keeper))
             (begun committed received (entries_of (store_of keeper)))) }
         ensures aside { IfOk result (λ keeper. D.tells (disk_of keeper)
-            → SetsTailAside (D.state sound.disk) (D.state (disk_of keeper)) (aside_of (store_of keeper))) }
+            → SetsTailsAside (D.state sound.disk) (D.state (disk_of keeper)) (asides_of (store_of keeper))) }
         ensures unbroken { IfOk result (λ keeper. ¬ (IsBroken (store_of keeper))) }
         ensures kept { IfErr result (λ r. D.tells r.1 → (committed received : List Entry)
             → Keeps (D.state sound.disk) committed received → Keeps (D.state r.1) committed received) }
@@ -78,9 +78,9 @@ impl<D: Disk + Drop> DiskKeeper<D> {
         }
     }
 
-    /// What was set aside when the store was opened, if anything was.
-    pub fn set_aside(&self) -> Option<SetAside>
-        ensures { result ≡ aside_of (store_of self.now) }
+    /// What was set aside when the store was opened, the oldest journal first.
+    pub fn set_aside(&self) -> &[SetAside]
+        ensures { result.now ≡ asides_of (store_of self.now) }
     {
         self.store.set_aside()
     }

@@ -3,7 +3,7 @@
 use crate::refused::{Behind, RefusedFile};
 use crate::telling::Teller;
 use disk::DiskFault;
-use durable_store::{OpenFault, SetAside, check_newest};
+use durable_store::{OpenFault, SetAside, check_journals};
 use folder_disk::{FolderDisk, FolderLock, LockFault, LockFile};
 use journal::JournalFault;
 use record_store::StoreFault;
@@ -77,7 +77,7 @@ fn renew(
         Ok(true) => {}
         Err(error) => return Err(refuse_lock(teller, dir, error)),
     }
-    if let Err(fault) = check_newest(alloc, disk) {
+    if let Err(fault) = check_journals(alloc, disk) {
         return Err(refuse_store(teller, dir, fault, disk));
     }
     teller.tell("a sync had failed: the newest journal is written anew\n");
@@ -125,8 +125,8 @@ fn open_keeper(
 ) -> Result<Keeper, Fault> {
     match DiskKeeper::open(teller.rt.alloc(), SoundDisk { disk }) {
         Ok(keeper) => {
-            if let Some(aside) = keeper.set_aside() {
-                tell_aside(teller, aside)?;
+            for aside in keeper.set_aside() {
+                tell_aside(teller, *aside)?;
             }
             Ok(keeper)
         }
