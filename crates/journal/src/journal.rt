@@ -28,12 +28,12 @@ pub struct Journal {
     pub(crate) end: u64,
 }
 
-// a batch without the octet that opens it, and a closed octet behind it
+// a batch without the octet that opens it, and a closed octet behind it, in room for just these
 fn written(alloc: Global, body: &[u8]) -> Result<Vec<u8>, AllocError>
     requires { length body.now < 2 ^ 32 }
     ensures { IfOk result (λ octets. octets.items ≡ closed_batch body.now) }
 {
-    let mut octets = Vec::new(alloc);
+    let mut octets = Vec::with_capacity(alloc, HEAD as usize + body.len())?;
     octets.extend_from_slice(&(body.len() as u32).to_le_bytes())?;
     octets.extend_from_slice(body)?;
     octets.push(CLOSED)?;

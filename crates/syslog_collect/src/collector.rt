@@ -300,6 +300,21 @@ impl<S: Store> Collector<S> {
         }
     }
 
+    /// Whether a frame of a connection waits, since memory was refused for it.
+    pub fn frame_waits(&self, conn: u32) -> bool
+        ensures none { result ≡ false → waits_of self.now conn ≡ 0 }
+        ensures one { result ≡ true → (past first : List Entry) (events : List AcceptedEvent)
+            → Stands (behind past S.entries) self.now first events → waits_of self.now conn ≡ 1 }
+    {
+        match self.connections.find(conn) {
+            None => false,
+            Some(place) => match self.connections.slots[place].scanner.end() {
+                Err(EndFault::Unreleased) => true,
+                Ok(()) | Err(EndFault::Failed | EndFault::Unterminated { .. }) => false,
+            },
+        }
+    }
+
     /// The store. If no frame waits, it holds what it held at first and the received set.
     pub fn store(&self) -> &S
         ensures same { result.now ≡ store_of self.now }
