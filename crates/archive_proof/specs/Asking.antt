@@ -14,7 +14,8 @@ use Rattle.archive_proof.specs.declared.asked.AskFault.{AskFault}
 use Rattle.archive_proof.specs.declared.asked.AskFault.TheVariants.{Bad, Memory}
 use Rattle.archive_proof.specs.declared.asked.AskedRecord.{AskedRecord}
 use Rattle.archive_proof.specs.declared.records.RecordsFault.{RecordsFault}
-use Rattle.archive_proof.specs.declared.records.RecordsFault.TheVariants.{Bad as records_Bad, TooMany, Memory as records_Memory}
+use Rattle.archive_proof.specs.declared.records.RecordsFault.TheVariants.{Bad as records_Bad, TooMany}
+use Rattle.archive_proof.specs.declared.records.RecordsFault.TheVariants.{Memory as records_Memory}
 use Rattle.archive_proof.specs.declared.records.TheConstants.{ASKED_MAX}
 
 -- what the record is in an archive
