@@ -70,7 +70,7 @@ def counted(records):
 
 
 def changed(random, text):
-    """A text with one octet changed, left out or put in, and what it is never confirmed as."""
+    """A text with one octet changed, left out or put in."""
     at = random.randrange(len(text))
     return text[:at] + random.choice([b"", bytes([text[at] ^ 1 << random.randrange(8)]), text[at:at + 1] * 2]) + text[at + 1:]
 
@@ -82,6 +82,37 @@ def confirmed(command, head, records, text, program):
         return program.run(["confirm", *words], text)
     done = subprocess.run([sys.executable, EXAMPLE, *words], input=text, capture_output=True, timeout=60)
     return done.returncode, done.stdout, b""
+
+
+def every_octet(random, results, program, head, record, text, false):
+    """No octet of a proof can be changed so that it shows what is false."""
+    shown = []
+    for at in range(len(text)):
+        wrong = text[:at] + bytes([text[at] ^ 1 << random.randrange(8)]) + text[at + 1:]
+        if confirmed(True, head, [record], wrong, program)[1] == false:
+            shown.append(at)
+    results.same(f"the octets of a proof of {len(text)}", shown, [])
+
+
+def refused(program, results):
+    """What `prove` and `confirm` say of records that are none, and of archives that are none."""
+    root = ["1", ROOTS[1]]
+    for text, line in [(b"x", b"records bad-frame 0\n"), (b"3 <1>", b"records bad-entry 0 syntax priority 3\n"),
+                       (counted(POOL[:1] * 1025), b"records too-many\n"), (b"1" * (1 << 24) + b"1", b"records too-long\n")]:
+        name = program.folder.file("records", text)
+        results.same(f"prove: {line}", program.run(["prove", name], b""), (2, b"", line))
+        results.same(f"confirm: {line}", program.run(["confirm", *root, name], b""), (2, b"", line))
+    nowhere = str(program.folder.path / "nowhere")
+    results.same("no records to prove", program.run(["prove", nowhere], b""), (2, b"", b"records no file\n"))
+    results.same("no records to confirm", program.run(["confirm", *root, nowhere], b""), (2, b"", b"records no file\n"))
+    name = program.folder.file("records", counted(POOL[:1]))
+    results.same("no archive", program.run(["prove", name], b"x"), (1, b"", b"bad-frame 0\n"))
+    results.same("no proof", program.run(["confirm", *root, name], b""), (1, b"not shown\n", b""))
+    spelled = [b"<14>1 2024-02-29T23:30:00Z h a - - - y", b"<14>1 2024-03-01T00:30:00.0+01:00 h a - - - y"]
+    canonical = b"<14>1 2024-02-29T23:30:00.000000Z h a - - - y"
+    name = program.folder.file("records", counted(spelled))
+    text = proof_of([canonical], canonical) * 2
+    results.same("a record in other spellings", program.run(["prove", name], archive_text([canonical])), (0, text, b""))
 
 
 def proofs(program, results):
@@ -96,21 +127,28 @@ def proofs(program, results):
     for size in [0, 1, 2, 3, 4, 5, 7, 8, 9, 16, 17, 31, len(POOL) - 1]:
         entries = sorted(random.sample(POOL, size), key=order)
         head = str(size), tree_hash(entries).hex()
-        text = b"".join(proof_of(entries, record) for record in POOL)
-        right = b"".join(b"present\n" if record in entries else b"absent\n" for record in POOL)
+        made = {record: proof_of(entries, record) for record in POOL}
+        asked = random.choices(POOL, k=800)
+        text = b"".join(made[record] for record in asked)
+        right = b"".join(b"present\n" if record in entries else b"absent\n" for record in asked)
         archive = archive_text(entries)
         results.same(f"the root of {size} entries", program.run(["root"], archive), (0, f"{head[0]} {head[1]}\n".encode(), b""))
         if there:
-            name = program.folder.file("records", counted(POOL))
+            name = program.folder.file("records", counted(asked))
             results.same(f"proofs among {size} entries", program.run(["prove", name], archive), (0, text, b""))
         for command in [False, True][:1 + there]:
-            results.same(f"proofs among {size} entries, confirmed", confirmed(command, head, POOL, text, program), (0, right, b""))
+            results.same(f"proofs among {size} entries, confirmed", confirmed(command, head, asked, text, program), (0, right, b""))
             other = head[0], hashlib.sha256(head[1].encode()).hexdigest()
-            seen = confirmed(command, other, POOL, text, program)
-            results.same("proofs with another root", seen, (1, b"not shown\n" * len(POOL), b""))
+            seen = confirmed(command, other, asked, text, program)
+            results.same("proofs with another root", seen, (1, b"not shown\n" * len(asked), b""))
         for record in random.sample(POOL, 12):
-            wrong = changed(random, proof_of(entries, record))
+            wrong = changed(random, made[record])
             false = b"absent\n" if record in entries else b"present\n"
             for command in [False, True][:1 + there]:
                 seen = confirmed(command, head, [record], wrong, program)
                 results.check("a proof that was changed shows nothing that is false", seen[1] != false, f"{wrong} {seen}")
+        if there and size == 17:
+            for record, false in [(entries[5], b"absent\n"), (next(it for it in POOL if it not in entries), b"present\n")]:
+                every_octet(random, results, program, head, record, made[record], false)
+    if there:
+        refused(program, results)

@@ -5,6 +5,7 @@ pub mod Soundness
 pub mod Completeness
 pub mod Standing
 pub mod Theorems
+pub mod Askings
 pub mod Makings
 pub mod Endings
 pub mod Readings

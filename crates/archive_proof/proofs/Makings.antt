@@ -1,24 +1,27 @@
 -- Proofs under way.
-use Rattle.std.proofs.Common.{◌≡◌, ◌≢◌, ℕ, zero, suc, ◌+◌, ◌^◌, ◌<◌, ◌≤◌, ◌⊎◌, inl, inr, List, [], ◌∷◌, ◌++◌, length}
-use Rattle.std.proofs.Common.{reverse, refl, sym, ap, subst, ◌∙◌, arith, length-append}
-use Rattle.std.specs.Prelude.{Some, None, Option, slice_get, slice_set}
-use Rattle.std.proofs.lemmas.Option.{slice_get_within, slice_get_cases}
+use Rattle.std.proofs.Common.{◌≡◌, ◌≢◌, ℕ, zero, suc, ◌+◌, ◌*◌, ◌^◌, ◌<◌, ◌≤◌, inl, inr, List, [], ◌∷◌, ◌++◌, length}
+use Rattle.std.proofs.Common.{drop, reverse, refl, sym, ap, subst, take, ◌∙◌, arith, length-append}
+use Rattle.std.proofs.lemmas.Grind.{common_steps}
+use Rattle.std.specs.List.{AllByRecursion}
+use Rattle.std.specs.Prelude.{Some}
 use Rattle.archive_text.specs.Entries.{Entry, IsBelow}
 use Rattle.archive_tree.proofs.Archives.{count_of_texts, texts_append}
-use Rattle.archive_tree.specs.Tree.{audit_path, hash_to, path_to, tree_hash, leaf_hash}
+use Rattle.archive_tree.specs.Tree.{audit_path, hash_to, path_to, leaf_hash}
 use Rattle.archive_tree.specs.Trees.{AtOnePlace, HasTaken, IsFollowed}
 use Rattle.archive_tree.specs.declared.audit_path.AuditPath.{AuditPath}
 use Rattle.archive_tree.specs.declared.head.TreeHead.{TreeHead}
 use Rattle.archive_tree.specs.declared.stream.TreeStream.{TreeStream}
 use Rattle.archive_tree.proofs.TreeLaws.{hash_at, path_at}
+use Rattle.archive_proof.specs.Asking.{asked_entry}
 use Rattle.archive_proof.specs.Climbing.{climb}
 use Rattle.archive_tree.specs.Archives.{IsRootOf, texts_of}
 use Rattle.archive_proof.specs.Entries.{IsEntryAt}
-use Rattle.archive_proof.specs.Proving.{HasBefore, IsPlaced, IsProving, IsTracked}
+use Rattle.archive_proof.specs.Proving.{ArePlaced, HasBefore, IsFresh, IsPlaced, IsTracked}
 use Rattle.archive_proof.specs.Showing.{Leads}
-use Rattle.archive_proof.specs.declared.prover.Place.{Place}
-use Rattle.archive_proof.specs.declared.prover.Place.TheVariants.{Ahead, Found, Passed}
-use Rattle.archive_proof.specs.declared.prover.Prover.{Prover}
+use Rattle.archive_proof.specs.declared.asked.AskedRecord.{AskedRecord}
+use Rattle.archive_proof.specs.declared.search.Place.{Place}
+use Rattle.archive_proof.specs.declared.search.Place.TheVariants.{Ahead, Found, Passed}
+use Rattle.archive_proof.specs.declared.search.Search.{Search}
 use Rattle.archive_proof.proofs.Places.{text_at, at_within}
 use Rattle.archive_proof.proofs.Completeness.{complete}
 
@@ -33,123 +36,83 @@ entry_at_left [] i e x at = absurd at
 entry_at_left (y ∷ ys) zero e x at = at
 entry_at_left (y ∷ ys) (suc i) e x at = entry_at_left ys i e x at
 
--- paths that stand at the same place of two lists
-pub at_place : (k : ℕ) (old new : List AuditPath) (p q : AuditPath) → slice_get old k ≡ Some p → slice_get new k ≡
-    Some q
-    → AtOnePlace old new p q
-at_place k [] new p q h g = let no : k < 0 = slice_get_within [] k p h in absurd (omega arith)
-at_place k (a ∷ old) [] p q h g = let no : k < 0 = slice_get_within [] k q g in absurd (omega arith)
-at_place zero (a ∷ old) (b ∷ new) p q h g =
-    let e : a ≡ p = cc in let f : b ≡ q = cc in inl (e, f)
-at_place (suc k) (a ∷ old) (b ∷ new) p q h g = inr (at_place k old new p q h g)
+-- ---- further entries are looked at
 
--- where lists have one length, a path of one has a path of the other at its place
-pub other_at : (k : ℕ) (old new : List AuditPath) (p : AuditPath) → slice_get old k ≡ Some p → length new ≡ length old
-    → (q : AuditPath) × (slice_get new k ≡ Some q)
-other_at k old new p h same =
-    let within : k < length old = slice_get_within old k p h in
-    elim (slice_get_cases new k).1 [
-      | inl found ↦ (found.0, found.2)
-      | inr none ↦ absurd (omega (arith, none.0, within, same))
-    ]
+pub tracked_more : (t : TreeStream) (p : AuditPath) (i : ℕ) (e x : Entry) (all xs : List Entry)
+    → IsTracked t p i e all xs → IsTracked t p i e (all ++ x ∷ []) xs
+tracked_more t p i e x all xs h = record { at = entry_at_left all i e x h.at; followed = h.followed }
 
--- what is written at a place is there
-pub written_at : (paths : List AuditPath) (k : ℕ) (p : AuditPath) → k < length paths
-    → slice_get (slice_set paths k p) k ≡ Some p
-written_at [] k p within = absurd (omega (arith, within))
-written_at (a ∷ paths) zero p within = refl
-written_at (a ∷ paths) (suc k) p within = written_at paths k p (omega (arith, within))
+before_more : (r x : Entry) (t : TreeStream) (s : Search) (p : AuditPath) (i : ℕ) (all xs : List Entry)
+    → HasBefore r t s p i all xs → HasBefore r t s p i (all ++ x ∷ []) xs
+before_more r x t s p i all xs (inl none) = inl none
+before_more r x t s p i all xs (inr (j, (e, (next, below, same, tracked)))) =
+    inr (j, (e, (next, below, same, tracked_more t p j e x all xs tracked)))
 
--- and what was first still is where it was written second
-pub not_written : (paths : List AuditPath) (p : AuditPath) → slice_get (slice_set paths 1 p) 0 ≡ slice_get paths 0
-not_written [] p = refl
-not_written (a ∷ paths) p = refl
+-- once the place is known, they change nothing
+pub placed_more : (place : Place) (r x : Entry) (t : TreeStream) (s : Search) (p q : AuditPath) (all xs : List Entry)
+    → place ≢ Ahead → IsPlaced place r t s p q all xs → IsPlaced place r t s p q (all ++ x ∷ []) xs
+placed_more Ahead r x t s p q all xs known h = absurd (known refl)
+placed_more Found r x t s p q all xs known (i, h) = (i, tracked_more t p i r x all xs h)
+placed_more Passed r x t s p q all xs known (i, (e, (above, same, h, before))) =
+    (i, (e, (above, same, tracked_more t q i e x all xs h, before_more r x t s p i all xs before)))
 
--- ---- steps
+-- ---- the entry that was looked at comes into the tree
 
-pub tracked_more : (t : TreeStream) (paths : List AuditPath) (place i : ℕ) (e x : Entry) (all xs : List Entry)
-    → IsTracked t paths place i e all xs → IsTracked t paths place i e (all ++ x ∷ []) xs
-tracked_more t paths place i e x all xs h = record {
-  path = h.path;
-  held = h.held;
-  at = entry_at_left all i e x h.at;
-  followed = h.followed;
-}
+-- what `push` of a tree ensures of a path
+abbrev pub Moves : TreeStream → TreeStream → List ℕ → AuditPath → AuditPath → Type 0
+Moves t u octets p q =
+    (index : ℕ) (xs : List (List ℕ)) → length xs + 1 < 2 ^ 64 → IsFollowed t index p xs
+    → IsFollowed u index q (xs ++ octets ∷ [])
 
-before_more : (r x : Entry) (s : Prover) (i : ℕ) (all xs : List Entry) → HasBefore r s i all xs
-    → HasBefore r s i (all ++ x ∷ []) xs
-before_more r x s i all xs (inl none) = inl none
-before_more r x s i all xs (inr (j, (e, (next, below, same, tracked)))) =
-    inr (j, (e, (next, below, same, tracked_more s.tree s.paths 0 j e x all xs tracked)))
-
--- once the place is known, further entries change nothing
-pub placed_more : (place : Place) (r x : Entry) (s : Prover) (all xs : List Entry) → place ≢ Ahead
-    → IsPlaced place r s all xs → IsPlaced place r s (all ++ x ∷ []) xs
-placed_more Ahead r x s all xs known h = absurd (known refl)
-placed_more Found r x s all xs known (i, h) = (i, tracked_more s.tree s.paths 0 i r x all xs h)
-placed_more Passed r x s all xs known (i, (e, (above, same, h, before))) =
-    (i, (e, (above, same, tracked_more s.tree s.paths 1 i e x all xs h, before_more r x s i all xs before)))
-
--- what `push` of a tree ensures of paths
+-- and of all paths
 abbrev pub Pushes : TreeStream → TreeStream → List AuditPath → List AuditPath → List ℕ → Type 0
 Pushes t u old new octets =
     (index : ℕ) (p q : AuditPath) (xs : List (List ℕ)) → AtOnePlace old new p q → length xs + 1 < 2 ^ 64
     → IsFollowed t index p xs → IsFollowed u index q (xs ++ octets ∷ [])
 
-tracked_pushed : (t u : TreeStream) (old new : List AuditPath) (place i : ℕ) (e x : Entry) (all xs : List Entry)
-    → Pushes t u old new x.octets → length new ≡ length old → length xs + 1 < 2 ^ 64 → IsTracked t old place i e all xs
-    → IsTracked u new place i e all (xs ++ x ∷ [])
-tracked_pushed t u old new place i e x all xs pushes same room h =
-    let found = other_at place old new h.path h.held same in
-    let fits : length (texts_of xs) + 1 < 2 ^ 64 = omega (arith, count_of_texts xs) in
-    record {
-      path = found.0;
-      held = found.1;
-      at = h.at;
-      followed = subst (λ (l : List (List ℕ)). IsFollowed u i found.0 l) (sym (texts_append xs x))
-          (pushes i h.path found.0 (texts_of xs) (at_place place old new h.path found.0 h.held found.1) fits
-          h.followed);
-    }
+module _ (t u : TreeStream) (x : Entry) (all xs : List Entry) (room : length xs + 1 < 2 ^ 64) where
+  tracked_pushed : (p q : AuditPath) (i : ℕ) (e : Entry) → Moves t u x.octets p q → IsTracked t p i e all xs
+      → IsTracked u q i e all (xs ++ x ∷ [])
+  tracked_pushed p q i e moves h =
+      let fits : length (texts_of xs) + 1 < 2 ^ 64 = omega (arith, count_of_texts xs, room) in
+      record {
+        at = h.at;
+        followed = subst (λ (l : List (List ℕ)). IsFollowed u i q l) (sym (texts_append xs x))
+            (moves i (texts_of xs) fits h.followed);
+      }
 
-before_pushed : (r x : Entry) (s n : Prover) (i : ℕ) (all xs : List Entry)
-    → Pushes s.tree n.tree s.paths n.paths x.octets → length n.paths ≡ length s.paths → n.before ≡ s.before
-    → length xs + 1 < 2 ^ 64 → HasBefore r s i all xs → HasBefore r n i all (xs ++ x ∷ [])
-before_pushed r x s n i all xs pushes same kept room (inl (first, none)) =
-    inl (first, ap (λ v. v.items) kept ∙ none)
-before_pushed r x s n i all xs pushes same kept room (inr (j, (e, (next, below, octets, tracked)))) =
-    inr (
-      j,
-      (
-        e,
-        (
-          next,
-          below,
-          ap (λ v. v.items) kept ∙ octets,
-          tracked_pushed s.tree n.tree s.paths n.paths 0 j e x all xs pushes same room tracked,
-        ),
-      ),
-    )
+  before_pushed : (r : Entry) (s : Search) (p q : AuditPath) (i : ℕ) → Moves t u x.octets p q
+      → HasBefore r t s p i all xs → HasBefore r u s q i all (xs ++ x ∷ [])
+  before_pushed r s p q i moves (inl none) = inl none
+  before_pushed r s p q i moves (inr (j, (e, (next, below, same, h)))) =
+      inr (j, (e, (next, below, same, tracked_pushed p q j e moves h)))
 
--- the entry that was looked at comes into the tree
-pub placed_pushed : (place : Place) (r x : Entry) (s n : Prover) (all xs : List Entry)
-    → Pushes s.tree n.tree s.paths n.paths x.octets → length n.paths ≡ length s.paths → n.before ≡ s.before
-    → n.behind ≡ s.behind → length xs + 1 < 2 ^ 64 → IsPlaced place r s all xs → IsPlaced place r n all (xs ++ x ∷ [])
-placed_pushed Ahead r x s n all xs pushes same kept left room (none, before) =
-    (ap (λ v. v.items) left ∙ none, before_pushed r x s n (length all) all xs pushes same kept room before)
-placed_pushed Found r x s n all xs pushes same kept left room (i, h) =
-    (i, tracked_pushed s.tree n.tree s.paths n.paths 0 i r x all xs pushes same room h)
-placed_pushed Passed r x s n all xs pushes same kept left room (i, (e, (above, octets, h, before))) = (
-  i,
-  (
-    e,
-    (
-      above,
-      ap (λ v. v.items) left ∙ octets,
-      tracked_pushed s.tree n.tree s.paths n.paths 1 i e x all xs pushes same room h,
-      before_pushed r x s n i all xs pushes same kept room before,
-    ),
-  ),
-)
+  placed_pushed : (place : Place) (r : Entry) (s : Search) (p q v w : AuditPath) → Moves t u x.octets p v
+      → Moves t u x.octets q w → IsPlaced place r t s p q all xs → IsPlaced place r u s v w all (xs ++ x ∷ [])
+  placed_pushed Ahead r s p q v w first second (none, h) = (none, before_pushed r s p v (length all) first h)
+  placed_pushed Found r s p q v w first second (i, h) = (i, tracked_pushed p v i r first h)
+  placed_pushed Passed r s p q v w first second (i, (e, (above, same, h, before))) =
+      (i, (e, (above, same, tracked_pushed q w i e second h, before_pushed r s p v i first before)))
+
+  pub all_pushed : (rs : List AskedRecord) (ss : List Search) (old new : List AuditPath)
+      → Pushes t u old new x.octets → length new ≡ length old → ArePlaced t all xs rs ss old
+      → ArePlaced u all (xs ++ x ∷ []) rs ss new
+  all_pushed [] [] [] [] pushes same h = h
+  all_pushed [] [] [] (v ∷ new) pushes same h = absurd (omega (arith, same))
+  all_pushed [] [] (p ∷ old) new pushes same h = absurd h
+  all_pushed [] (s ∷ ss) old new pushes same h = absurd h
+  all_pushed (r ∷ rs) [] old new pushes same h = absurd h
+  all_pushed (r ∷ rs) (s ∷ ss) [] new pushes same h = absurd h
+  all_pushed (r ∷ rs) (s ∷ ss) (p ∷ []) new pushes same h = absurd h
+  all_pushed (r ∷ rs) (s ∷ ss) (p ∷ q ∷ old) [] pushes same h = absurd (omega (arith, same))
+  all_pushed (r ∷ rs) (s ∷ ss) (p ∷ q ∷ old) (v ∷ []) pushes same h = absurd (omega (arith, same))
+  all_pushed (r ∷ rs) (s ∷ ss) (p ∷ q ∷ old) (v ∷ w ∷ new) pushes same h = (
+    placed_pushed s.place (asked_entry r) s p q v w
+        (λ index ys fits follows. pushes index p v ys (inl (refl, refl)) fits follows)
+        (λ index ys fits follows. pushes index q w ys (inr (inl (refl, refl))) fits follows) h.0,
+    all_pushed rs ss old new (λ index a b ys at fits follows. pushes index a b ys (inr (inr at)) fits follows)
+        (omega (arith, same)) h.1,
+  )
 
 -- ---- the end
 
@@ -177,94 +140,75 @@ leads_up head q i e xs room is at own path =
 abbrev pub Begins : ℕ → AuditPath → Type 0
 Begins i p = (t : TreeStream) (ts : List (List ℕ)) → HasTaken t ts → length ts ≤ i → IsFollowed t i p ts
 
-tracked_new : (t : TreeStream) (paths : List AuditPath) (place : ℕ) (p : AuditPath) (x : Entry) (xs : List Entry)
-    → HasTaken t (texts_of xs) → slice_get paths place ≡ Some p → Begins t.count p
-    → IsTracked t paths place (length xs) x (xs ++ x ∷ []) xs
-tracked_new t paths place p x xs taken held begins =
-    let count : t.count ≡ length xs = taken.count ∙ count_of_texts xs in
+tracked_new : (t : TreeStream) (p : AuditPath) (index : ℕ) (x : Entry) (xs : List Entry) → HasTaken t (texts_of xs)
+    → t.count ≡ index → Begins index p → IsTracked t p (length xs) x (xs ++ x ∷ []) xs
+tracked_new t p index x xs taken counted begins =
+    let size : index ≡ length xs = sym counted ∙ taken.count ∙ count_of_texts xs in
     record {
-      path = p;
-      held = held;
       at = entry_at_end xs x;
-      followed = subst (λ (n : ℕ). IsFollowed t n p (texts_of xs)) count
-          (begins t (texts_of xs) taken (omega (arith, taken.count)));
+      followed = subst (λ (n : ℕ). IsFollowed t n p (texts_of xs)) size
+          (begins t (texts_of xs) taken (omega (arith, taken.count, counted)));
     }
 
-module _ (r x : Entry) (s n : Prover) (xs : List Entry) (p : AuditPath) (h : IsProving r s xs xs)
-    (tree : n.tree ≡ s.tree) (begins : Begins s.tree.count p) where
-  taken_still : HasTaken n.tree (texts_of xs)
-  taken_still = subst (λ (t : TreeStream). HasTaken t (texts_of xs)) (sym tree) h.taken
-
-  begins_still : Begins n.tree.count p
-  begins_still = subst (λ (t : TreeStream). Begins t.count p) (sym tree) begins
-
+module _ (r x : Entry) (s n : Search) (t : TreeStream) (p q path : AuditPath) (index : ℕ) (xs : List Entry)
+    (taken : HasTaken t (texts_of xs)) (counted : t.count ≡ index) (begins : Begins index path) where
   -- it comes before the record
-  pub seek_below : s.place ≡ Ahead → n.place ≡ Ahead → IsBelow x r → n.behind ≡ s.behind → n.before.items ≡ x.octets
-      → slice_get n.paths 0 ≡ Some p → IsProving r n (xs ++ x ∷ []) xs
-  seek_below was is below behind before held =
-      let placed : IsPlaced Ahead r s xs xs = subst (λ (l : Place). IsPlaced l r s xs xs) was h.placed in
-      let next : suc (length xs) ≡ length (xs ++ x ∷ []) = omega (arith, length-append xs (x ∷ [])) in
-      record {
-        taken = taken_still;
-        placed = subst (λ (l : Place). IsPlaced l r n (xs ++ x ∷ []) xs) (sym is) (
-          ap (λ v. v.items) behind ∙ placed.0,
-          inr (
-            length xs,
-            (
-              x,
-              (
-                next,
-                below,
-                before,
-                tracked_new n.tree n.paths 0 p x xs taken_still held begins_still,
-              ),
-            ),
-          ),
-        );
-      }
+  pub seek_below : IsPlaced Ahead r t s p q xs xs → IsBelow x r → n.behind ≡ s.behind → n.before.items ≡ x.octets
+      → IsPlaced Ahead r t n path q (xs ++ x ∷ []) xs
+  seek_below h below behind before =
+      let next : suc (length xs) ≡ length (xs ++ x ∷ []) = omega (arith, length-append xs (x ∷ [])) in (
+        ap (λ v. v.items) behind ∙ h.0,
+        inr (length xs, (x, (next, below, before, tracked_new t path index x xs taken counted begins))),
+      )
 
   -- it is the record
-  pub seek_found : n.place ≡ Found → x ≡ r → slice_get n.paths 0 ≡ Some p → IsProving r n (xs ++ x ∷ []) xs
-  seek_found is same held = record {
-    taken = taken_still;
-    placed = subst (λ (l : Place). IsPlaced l r n (xs ++ x ∷ []) xs) (sym is) (
-      length xs,
-      subst (λ (e : Entry). IsTracked n.tree n.paths 0 (length xs) e (xs ++ x ∷ []) xs) same
-          (tracked_new n.tree n.paths 0 p x xs taken_still held begins_still),
-    );
-  }
+  pub seek_found : x ≡ r → IsPlaced Found r t n path q (xs ++ x ∷ []) xs
+  seek_found same = (
+    length xs,
+    subst (λ (e : Entry). IsTracked t path (length xs) e (xs ++ x ∷ []) xs) same
+        (tracked_new t path index x xs taken counted begins),
+  )
 
   -- it comes behind the record
-  pub seek_above : s.place ≡ Ahead → n.place ≡ Passed → IsBelow r x → n.before ≡ s.before → n.behind.items ≡ x.octets
-      → slice_get n.paths 0 ≡ slice_get s.paths 0 → slice_get n.paths 1 ≡ Some p → IsProving r n (xs ++ x ∷ []) xs
-  seek_above was is above before behind first held =
-      let placed : IsPlaced Ahead r s xs xs = subst (λ (l : Place). IsPlaced l r s xs xs) was h.placed in
-      record {
-        taken = taken_still;
-        placed = subst (λ (l : Place). IsPlaced l r n (xs ++ x ∷ []) xs) (sym is) (
-          length xs,
-          (
-            x,
-            (
-              above,
-              behind,
-              tracked_new n.tree n.paths 1 p x xs taken_still held begins_still,
-              still_before (length xs) placed.1,
-            ),
-          ),
-        );
-      }
+  pub seek_above : IsPlaced Ahead r t s p q xs xs → IsBelow r x → n.before ≡ s.before → n.behind.items ≡ x.octets
+      → IsPlaced Passed r t n p path (xs ++ x ∷ []) xs
+  seek_above h above before behind = (
+    length xs,
+    (x, (above, behind, tracked_new t path index x xs taken counted begins, still (length xs) h.1)),
+  )
     where
-      still_tracked : (i : ℕ) (e : Entry) → slice_get n.paths 0 ≡ slice_get s.paths 0
-          → IsTracked s.tree s.paths 0 i e xs xs → IsTracked n.tree n.paths 0 i e (xs ++ x ∷ []) xs
-      still_tracked i e first k = record {
-        path = k.path;
-        held = first ∙ k.held;
-        at = entry_at_left xs i e x k.at;
-        followed = subst (λ (t : TreeStream). IsFollowed t i k.path (texts_of xs)) (sym tree) k.followed;
-      }
+      still : (i : ℕ) → HasBefore r t s p i xs xs → HasBefore r t n p i (xs ++ x ∷ []) xs
+      still i (inl none) = inl (none.0, ap (λ v. v.items) before ∙ none.1)
+      still i (inr (j, (e, (next, below, same, k)))) =
+          inr (j, (e, (next, below, ap (λ v. v.items) before ∙ same, tracked_more t p j e x xs xs k)))
 
-      still_before : (i : ℕ) → HasBefore r s i xs xs → HasBefore r n i (xs ++ x ∷ []) xs
-      still_before i (inl none) = inl (none.0, ap (λ v. v.items) before ∙ none.1)
-      still_before i (inr (j, (e, (next, below, same, k)))) =
-          inr (j, (e, (next, below, ap (λ v. v.items) before ∙ same, still_tracked j e first k)))
+-- ---- the beginning
+
+pub placed_fresh : (t : TreeStream) (rs : List AskedRecord) (ss : List Search) (ps : List AuditPath)
+    → length ss ≡ length rs → AllByRecursion IsFresh ss → length ps ≡ 2 * length rs → ArePlaced t [] [] rs ss ps
+placed_fresh t [] [] [] same fresh pairs = tt
+placed_fresh t [] [] (p ∷ ps) same fresh pairs = absurd (omega (arith, pairs))
+placed_fresh t [] (s ∷ ss) ps same fresh pairs = absurd (omega (arith, same))
+placed_fresh t (r ∷ rs) [] ps same fresh pairs = absurd (omega (arith, same))
+placed_fresh t (r ∷ rs) (s ∷ ss) [] same fresh pairs = absurd (omega (arith, pairs))
+placed_fresh t (r ∷ rs) (s ∷ ss) (p ∷ []) same fresh pairs = absurd (omega (arith, pairs))
+placed_fresh t (r ∷ rs) (s ∷ ss) (p ∷ q ∷ ps) same fresh pairs = (
+  subst (λ (l : Place). IsPlaced l (asked_entry r) t s p q [] []) (sym fresh.0.place)
+      (fresh.0.behind, inl (refl, fresh.0.before)),
+  placed_fresh t rs ss ps (omega (arith, same)) fresh.1 (omega (arith, pairs)),
+)
+
+-- ---- lists that are the same
+
+-- what is written to a whole slice of a vector
+pub written_back : {R : Type 0} (n : ℕ) (old new : List R) → length new ≡ n → length old ≡ n
+    → take n (new ++ drop (length new) old) ≡ new
+written_back n old new is_new is_old = grind (arith, common_steps)
+
+pub placed_same : (t : TreeStream) (all xs : List Entry) (rs rs' : List AskedRecord) (ss ss' : List Search)
+    (ps ps' : List AuditPath) → rs ≡ rs' → ss ≡ ss' → ps ≡ ps' → ArePlaced t all xs rs ss ps
+    → ArePlaced t all xs rs' ss' ps'
+placed_same t all xs rs rs' ss ss' ps ps' e f g h =
+    subst (λ (l : List AuditPath). ArePlaced t all xs rs' ss' l) g
+    (subst (λ (l : List Search). ArePlaced t all xs rs' l ps) f
+    (subst (λ (l : List AskedRecord). ArePlaced t all xs l ss ps) e h))

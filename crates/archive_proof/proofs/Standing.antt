@@ -1,6 +1,5 @@
 -- Whether a neighbour stands in the tree.
 use Rattle.std.proofs.Common.{◌≡◌, ℕ, List, sym, subst, ◌∙◌}
-use Rattle.octet_language.specs.Language.{AnyOf}
 use Rattle.syslog_reading.specs.WellFormed.{WellFormed}
 use Rattle.syslog_grammar.proofs.CanonicalParses.{canonical_well_formed}
 use Rattle.archive_text.specs.Entries.{Entry, IsBelow, IsEntry}

@@ -5,7 +5,7 @@ use Rattle.std.specs.List.{AllByRecursion}
 use Rattle.std.specs.Prelude.{Option, None, Some}
 use Rattle.archive_text.specs.Entries.{Entry, Has, IsAscending, IsBelow, IsEntry}
 use Rattle.archive_tree.proofs.Archives.{count_of_texts}
-use Rattle.archive_tree.specs.Tree.{leaf_hash, hash_to, tree_hash}
+use Rattle.archive_tree.specs.Tree.{leaf_hash, hash_to}
 use Rattle.archive_tree.specs.declared.audit_path.AuditPath.{AuditPath}
 use Rattle.archive_tree.specs.declared.head.TreeHead.{TreeHead}
 use Rattle.archive_tree.proofs.TreeLaws.{hash_at}

@@ -1,6 +1,6 @@
 -- Proofs as texts.
-use Rattle.std.specs.Prelude.{◌≡◌, ℕ, ◌^◌, ◌<◌, ◌≤◌, List, [], ◌∷◌, ◌++◌, Option, None, Some, codes, decimal, length}
-use Rattle.std.specs.List.{AllByRecursion, flat_map}
+use Rattle.std.specs.Prelude.{ℕ, List, [], ◌∷◌, ◌++◌, Option, None, Some, codes, decimal, length}
+use Rattle.std.specs.List.{flat_map}
 use Rattle.hex.specs.Hex.{encode_lower}
 use Rattle.archive_tree.specs.declared.audit_path.AuditPath.{AuditPath}
 use Rattle.archive_proof.specs.declared.proof.Neighbour.{Neighbour}
@@ -16,9 +16,13 @@ abbrev pub path_text : AuditPath → List ℕ
 path_text p =
     decimal p.index ++ 32 ∷ decimal (length p.hashes.items) ++ 10 ∷ flat_map hash_line p.hashes.items
 
+-- length SP record LF path
+abbrev pub beside_text : List ℕ → AuditPath → List ℕ
+beside_text octets p = decimal (length octets) ++ 32 ∷ octets ++ 10 ∷ path_text p
+
 -- neighbour = length SP record LF path
 abbrev pub neighbour_text : Neighbour → List ℕ
-neighbour_text n = decimal (length n.octets.items) ++ 32 ∷ n.octets.items ++ 10 ∷ path_text n.path
+neighbour_text n = beside_text n.octets.items n.path
 
 -- the word before a neighbour, and the neighbour; or nothing
 abbrev pub side_text : List ℕ → Option Neighbour → List ℕ

@@ -1,19 +1,26 @@
 //! Proofs that a record is in an archive, or that it is not, for someone who has no more of the
 //! archive than the head of its Merkle tree (RFC 9162, section 2.1).
 //!
-//! [`Prover`] makes one as the entries of the archive come, in its order. [`confirm`] says what a proof
-//! shows, of any proof, however it was made.
+//! [`Prover`] makes those of many records, each an [`AskedRecord`], as the entries of the archive come
+//! once, in its order. [`confirm`] says what a proof shows, of any proof, however it was made.
 #![tactic(auto)]
 
+mod asked;
 mod climb;
+mod made;
 mod proof;
 mod prover;
 mod reading;
+mod records;
+mod search;
 mod shown;
 mod writing;
 
+pub use asked::{AskFault, AskedRecord};
 pub use proof::{Answer, Neighbour, Proof};
-pub use prover::{Place, Prover};
+pub use prover::Prover;
 pub use reading::read_proof;
+pub use records::{ASKED_MAX, RecordsFault, read_records};
+pub use search::{Place, Search};
 pub use shown::confirm;
 pub use writing::put_proof;

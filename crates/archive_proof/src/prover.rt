@@ -1,164 +1,106 @@
 //! Proofs are made, as the entries of an archive come.
 
-ghost use Rattle.std.specs.Prelude.{◌≡◌, [], ◌∷◌, ◌++◌, ℕ, ◌+◌, ◌<◌, ◌^◌, List, OnOk, length, slice_get};
-ghost use Rattle.archive_text.specs.Entries.{Entry, Has, IsAscending, IsEntry};
+ghost use Rattle.std.specs.Prelude.{◌≡◌, [], ◌∷◌, ◌++◌, ◌+◌, ◌<◌, ◌^◌, List, IfOk, OnOk, length};
+ghost use Rattle.std.specs.List.{flat_map};
+ghost use Rattle.archive_text.specs.Entries.{Entry};
 ghost use Rattle.archive_text.specs.EntryViews.{entry_of};
 ghost use Rattle.archive_text.specs.Text.{IsArchive};
-ghost use Rattle.archive_tree.specs.Archives.{IsRootOf, texts_of};
-ghost use Rattle.archive_proof.specs.Proving.{IsProving};
-ghost use Rattle.archive_proof.specs.Showing.{ShowsAbsent, ShowsPresent};
+ghost use Rattle.archive_text.specs.declared.limits.TheConstants.{ENTRY_MAX};
+ghost use Rattle.archive_tree.specs.Archives.{IsRootOf};
+ghost use Rattle.archive_proof.specs.Asking.{asked_entries};
+ghost use Rattle.archive_proof.specs.Proving.{AreFresh, AreProofsOf, IsProving};
+ghost use Rattle.archive_proof.specs.Texts.{proof_text};
+ghost use Rattle.archive_proof.specs.declared.proof.Proof.{Proof as Shown};
 
-use crate::proof::{Neighbour, Proof};
-use archive_text::{EntryView, compare};
+use crate::asked::AskedRecord;
+use crate::made::put_all;
+use crate::search::{Search, look_all};
+use archive_text::EntryView;
 use archive_tree::{AuditPath, TreeHead, TreeStream};
 use std::alloc::{AllocError, Global};
-use std::cmp::Ordering;
 
-/// Where the place of a record is, as far as entries came.
-#[derive(Clone, Copy, Debug, PartialEq, Eq)]
-pub enum Place {
-    /// Behind all of them.
-    Ahead,
-    /// It is one of them.
-    Found,
-    /// Before one of them, and it is none.
-    Passed,
-}
-
-/// A proof of one record under way. The entries of the archive come in its order.
+/// Proofs of some records under way. The entries of the archive come in its order, each once for all
+/// of the records.
 #[derive(Drop)]
 pub struct Prover {
-    /// Where the place of the record is.
-    pub place: Place,
+    /// The records that are asked for.
+    pub asked: Vec<AskedRecord>,
+    /// For each, where its place is.
+    pub searches: Vec<Search>,
+    /// For each, the audit paths of the entries right before its place and right behind it. Where it
+    /// is one of the entries, the first is its own.
+    pub paths: Vec<AuditPath>,
     /// The tree of the entries that came.
     pub tree: TreeStream,
-    /// The octets of the entry right before the place.
-    pub before: Vec<u8>,
-    /// The octets of the entry right behind the place.
-    pub behind: Vec<u8>,
-    /// The audit paths of these two. Where the record is one of the entries, the first is its own.
-    pub paths: [AuditPath; 2],
 }
 
-// Keeps octets in place of those that were kept.
-fn keep(kept: &mut Vec<u8>, octets: &[u8]) -> Result<(), AllocError>
-    ensures { OnOk result (kept.new.items ≡ octets.now) }
+// So many searches before the first entry.
+fn fresh(alloc: Global, count: usize) -> Result<Vec<Search>, AllocError>
+    ensures { IfOk result (λ searches. AreFresh count searches.items) }
 {
-    kept.clear();
-    kept.extend_from_slice(octets)
-}
-
-// The neighbour of these octets, if there are any: an entry has octets.
-fn kept(octets: Vec<u8>, path: AuditPath) -> Option<Neighbour>
-    ensures none { octets.items ≡ [] → result ≡ None }
-    ensures some { 0 < length octets.items
-        → result ≡ Some (record { octets = octets; path = path }) }
-{
-    if octets.is_empty() {
-        return None;
+    let mut searches = Vec::new(alloc);
+    'searches: while searches.len() < count {
+        searches.push(Search::new(alloc))?;
     }
-    Some(Neighbour { octets, path })
+    Ok(searches)
 }
 
-fn parted(paths: [AuditPath; 2]) -> (AuditPath, AuditPath)
-    ensures first { slice_get paths 0 ≡ Some result.0 }
-    ensures second { slice_get paths 1 ≡ Some result.1 }
+// So many paths.
+fn new_paths(alloc: Global, count: usize) -> Result<Vec<AuditPath>, AllocError>
+    ensures { IfOk result (λ paths. length paths.items ≡ count) }
 {
-    let [first, second] = paths;
-    (first, second)
+    let mut paths = Vec::new(alloc);
+    'paths: while paths.len() < count {
+        paths.push(AuditPath::new(0))?;
+    }
+    Ok(paths)
 }
 
 impl Prover {
-    /// A proof before the first entry.
-    pub fn new(alloc: Global) -> Prover
-        ensures { (e : Entry) → IsProving e result [] [] }
+    /// Proofs of some records before the first entry. It fails only when out of memory.
+    pub fn new(alloc: Global, asked: Vec<AskedRecord>) -> Result<Prover, AllocError>
+        ensures { IfOk result (λ prover. IsProving (asked_entries asked.items) prover []) }
     {
-        Prover {
-            place: Place::Ahead,
+        let searches = fresh(alloc, asked.len())?;
+        let paths = new_paths(alloc, 2 * asked.len())?;
+        Ok(Prover {
+            asked,
+            searches,
+            paths,
             tree: TreeStream::new(),
-            before: Vec::new(alloc),
-            behind: Vec::new(alloc),
-            paths: [AuditPath::new(0), AuditPath::new(0)],
-        }
-    }
-
-    // Compares the next entry with the record, of which the place is ahead so far.
-    fn seek(&mut self, sought: &EntryView<'_>, entry: &EntryView<'_>) -> Result<(), AllocError>
-        ensures { OnOk result ((xs : List Entry) → self.old.place ≡ Place.Ahead
-            → IsProving (entry_of sought.now) self.old xs xs
-            → IsProving (entry_of sought.now) self.new (xs ++ entry_of entry.now ∷ []) xs) }
-    {
-        let path = AuditPath::new(self.tree.count);
-        match compare(entry, sought) {
-            Ordering::Less => {
-                keep(&mut self.before, entry.octets)?;
-                self.paths[0] = path;
-                Ok(())
-            }
-            Ordering::Equal => {
-                self.paths[0] = path;
-                self.place = Place::Found;
-                Ok(())
-            }
-            Ordering::Greater => {
-                keep(&mut self.behind, entry.octets)?;
-                self.paths[1] = path;
-                self.place = Place::Passed;
-                Ok(())
-            }
-        }
-    }
-
-    // Looks at the next entry, before it comes into the tree.
-    fn look(&mut self, sought: &EntryView<'_>, entry: &EntryView<'_>) -> Result<(), AllocError>
-        ensures { OnOk result ((xs : List Entry) → IsProving (entry_of sought.now) self.old xs xs
-            → IsProving (entry_of sought.now) self.new (xs ++ entry_of entry.now ∷ []) xs) }
-    {
-        match self.place {
-            Place::Ahead => self.seek(sought, entry),
-            _ => Ok(()),
-        }
+        })
     }
 
     /// Takes the next entry of the archive. It fails only when out of memory, and is of no use then.
-    pub fn push(&mut self, sought: &EntryView<'_>, entry: &EntryView<'_>) -> Result<(), AllocError>
-        ensures { OnOk result ((xs : List Entry) → length xs + 1 < 2 ^ 64
-            → IsProving (entry_of sought.now) self.old xs xs
-            → let all = xs ++ entry_of entry.now ∷ [] in
-            IsProving (entry_of sought.now) self.new all all) }
+    pub fn push(&mut self, entry: &EntryView<'_>) -> Result<(), AllocError>
+        ensures { OnOk result ((rs xs : List Entry) → length xs + 1 < 2 ^ 64
+            → IsArchive ENTRY_MAX (xs ++ entry_of entry.now ∷ [])
+            → IsProving rs self.old xs
+            → IsProving rs self.new (xs ++ entry_of entry.now ∷ [])) }
     {
-        self.look(sought, entry)?;
-        self.tree.push(entry.octets, &mut self.paths);
+        look_all(
+            self.asked.as_slice(),
+            self.searches.as_mut_slice(),
+            self.paths.as_mut_slice(),
+            entry,
+            self.tree.count,
+        )?;
+        self.tree.push(entry.octets, self.paths.as_mut_slice());
         Ok(())
     }
 
-    /// The head of the archive's tree, and the proof that the record is in the archive, or that it
-    /// is not.
-    pub fn finish(mut self) -> (TreeHead, Proof)
-        ensures head { (e : Entry) (xs : List Entry) → length xs < 2 ^ 64
-            → IsProving e self xs xs → IsRootOf result.0 xs }
-        ensures present { (e : Entry) (xs : List Entry) → length xs < 2 ^ 64
-            → IsProving e self xs xs → IsAscending xs → Has xs e
-            → ShowsPresent result.0 e result.1 }
-        ensures absent { (most : ℕ) (e : Entry) (xs : List Entry) → length xs < 2 ^ 64
-            → IsProving e self xs xs → IsArchive most xs → ¬ (Has xs e)
-            → ShowsAbsent result.0 e result.1 }
+    /// The head of the archive's tree, and for each of the records, in their order, the text of the
+    /// proof that it is in the archive, or that it is not. It fails only when out of memory.
+    pub fn finish(mut self, alloc: Global) -> Result<(TreeHead, Vec<u8>), AllocError>
+        ensures head { IfOk result (λ made. (rs xs : List Entry) → length xs < 2 ^ 64
+            → IsProving rs self xs → IsRootOf made.0 xs) }
+        ensures text { IfOk result (λ made. (rs xs : List Entry) → length xs < 2 ^ 64
+            → IsProving rs self xs → (ps : List Shown) × AreProofsOf made.0 xs rs ps
+            × (made.1.items ≡ flat_map proof_text ps)) }
     {
-        let Prover {
-            place,
-            tree,
-            before,
-            behind,
-            mut paths,
-        } = self;
-        let head = tree.finish(&mut paths);
-        let (first, second) = parted(paths);
-        match place {
-            Place::Found => (head, Proof::Present(first)),
-            _ => (
-                head,
-                Proof::Absent(kept(before, first), kept(behind, second)),
-            ),
-        }
+        let head = self.tree.finish(self.paths.as_mut_slice());
+        let mut text = Vec::new(alloc);
+        put_all(&mut text, self.searches.as_slice(), self.paths.as_slice())?;
+        Ok((head, text))
     }
 }

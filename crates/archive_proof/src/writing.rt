@@ -1,15 +1,15 @@
 //! Proofs are written.
 
-ghost use Rattle.std.specs.Prelude.{◌≡◌, ◌++◌, ◌∷◌, [], List, OnOk, decimal};
+ghost use Rattle.std.specs.Prelude.{◌≡◌, ◌++◌, ◌∷◌, [], List, OnOk, codes, decimal};
 ghost use Rattle.std.specs.List.{flat_map};
-ghost use Rattle.archive_proof.specs.Texts.{hash_line, neighbour_text, path_text, proof_text, side_text};
+ghost use Rattle.archive_proof.specs.Texts.{beside_text, hash_line, path_text, proof_text, side_text};
 
 use crate::proof::{Neighbour, Proof};
 use archive_tree::{AuditPath, Hash};
 use itoa::Buffer;
 use std::alloc::AllocError;
 
-fn put(text: &mut Vec<u8>, octets: &[u8]) -> Result<(), AllocError>
+pub(crate) fn put(text: &mut Vec<u8>, octets: &[u8]) -> Result<(), AllocError>
     ensures { OnOk result (text.new.items ≡ text.old.items ++ octets.now) }
 {
     text.extend_from_slice(octets)
@@ -50,13 +50,28 @@ fn put_path(text: &mut Vec<u8>, path: &AuditPath) -> Result<(), AllocError>
     put_hashes(text, hashes)
 }
 
-fn put_neighbour(text: &mut Vec<u8>, neighbour: &Neighbour) -> Result<(), AllocError>
-    ensures { OnOk result (text.new.items ≡ text.old.items ++ neighbour_text neighbour.now) }
+// Puts the neighbour of these octets and this path.
+pub(crate) fn put_neighbour(
+    text: &mut Vec<u8>,
+    octets: &[u8],
+    path: &AuditPath,
+) -> Result<(), AllocError>
+    ensures { OnOk result (text.new.items ≡ text.old.items ++ beside_text octets.now path.now) }
 {
-    put_number(text, neighbour.octets.len() as u64, b" ")?;
-    put(text, neighbour.octets.as_slice())?;
+    put_number(text, octets.len() as u64, b" ")?;
+    put(text, octets)?;
     put(text, b"\n")?;
-    put_path(text, &neighbour.path)
+    put_path(text, path)
+}
+
+// Puts the proof that a record with this path is there.
+pub(crate) fn put_present(text: &mut Vec<u8>, path: &AuditPath) -> Result<(), AllocError>
+    ensures { OnOk result (text.new.items
+        ≡ text.old.items ++ codes "present " ++ path_text path.now ++ 10 ∷ []) }
+{
+    put(text, b"present ")?;
+    put_path(text, path)?;
+    put(text, b"\n")
 }
 
 // Puts the word and the neighbour, if there is one.
@@ -71,7 +86,7 @@ fn put_side(
         return Ok(());
     };
     put(text, word)?;
-    put_neighbour(text, neighbour)
+    put_neighbour(text, neighbour.octets.as_slice(), &neighbour.path)
 }
 
 /// Writes a proof behind a text, as docs/PROOF_FORMAT.md has it. It fails only when out of memory.
@@ -79,11 +94,7 @@ pub fn put_proof(text: &mut Vec<u8>, proof: &Proof) -> Result<(), AllocError>
     ensures { OnOk result (text.new.items ≡ text.old.items ++ proof_text proof.now) }
 {
     match proof {
-        Proof::Present(path) => {
-            put(text, b"present ")?;
-            put_path(text, path)?;
-            put(text, b"\n")
-        }
+        Proof::Present(path) => put_present(text, path),
         Proof::Absent(before, behind) => {
             put(text, b"absent\n")?;
             put_side(text, b"before ", before)?;

@@ -1,5 +1,8 @@
-use archive_proof::{Answer, Proof, Prover, confirm, put_proof, read_proof};
-use archive_text::{EntryView, entry_of_octets};
+use archive_proof::{
+    ASKED_MAX, Answer, AskFault, AskedRecord, Proof, Prover, RecordsFault, confirm, put_proof,
+    read_proof, read_records,
+};
+use archive_text::{ArchiveFault, entry_of_octets};
 use archive_tree::TreeHead;
 use std::test::Fail;
 
@@ -11,79 +14,118 @@ const RECORDS: [&[u8]; 5] = [
     b"<14>1 2024-03-01T00:00:00.000000Z h a - - - z",
 ];
 
-// the head and the proof of a record among the records but one
-fn proved(
-    rt: &HostRuntime,
-    record: &EntryView<'_>,
-    without: usize,
-) -> Result<(TreeHead, Proof), Fail> {
-    let mut prover = Prover::new(rt.alloc());
+// the records that are asked for
+fn asked(rt: &HostRuntime, texts: &[&[u8]]) -> Result<Vec<AskedRecord>, Fail> {
+    let mut records = Vec::new(rt.alloc());
+    for octets in texts {
+        if let Ok(record) = AskedRecord::read(rt.alloc(), octets) {
+            records.push(record)?;
+        }
+    }
+    Ok(records)
+}
+
+// the head of the records but one, and the texts of the proofs of those that are asked for
+fn proved(rt: &HostRuntime, texts: &[&[u8]], without: usize) -> Result<(TreeHead, Vec<u8>), Fail> {
+    let mut prover = Prover::new(rt.alloc(), asked(rt, texts)?)?;
     for (n, octets) in RECORDS.iter().enumerate() {
         if n != without {
             if let Ok(entry) = entry_of_octets(octets) {
-                prover.push(record, &entry)?;
+                prover.push(&entry)?;
             }
         }
     }
-    Ok(prover.finish())
+    Ok(prover.finish(rt.alloc())?)
 }
 
 #[test]
-fn a_proof_is_confirmed_with_its_own_head_alone(rt: HostRuntime) -> Result<(), Fail> {
-    for (n, octets) in RECORDS.iter().enumerate() {
-        let Ok(record) = entry_of_octets(octets) else {
-            assert!(rt; false);
-            continue;
-        };
-        let (all, present) = proved(&rt, &record, RECORDS.len())?;
-        let (fewer, absent) = proved(&rt, &record, n)?;
-        assert_eq!(rt; (all.size, fewer.size), (5, 4));
-        assert!(rt; confirm(&all, &record, &present) == Answer::Present);
-        assert!(rt; confirm(&fewer, &record, &absent) == Answer::Absent);
-        assert!(rt; confirm(&fewer, &record, &present) == Answer::NotShown);
-        assert!(rt; confirm(&all, &record, &absent) == Answer::NotShown);
-        let longer = TreeHead {
-            size: all.size + 1,
-            hash: all.hash,
-        };
-        let Ok(other) = entry_of_octets(RECORDS[(n + 1) % 5]) else {
-            continue;
-        };
-        assert!(rt; confirm(&all, &other, &present) == Answer::NotShown);
-        assert!(rt; n != 4 || confirm(&longer, &record, &present) == Answer::NotShown);
+fn proofs_are_confirmed_with_their_own_head_alone(rt: HostRuntime) -> Result<(), Fail> {
+    let (all, none) = proved(&rt, &[], RECORDS.len())?;
+    assert!(rt; none.is_empty());
+    for without in 0..6 {
+        let (head, text) = proved(&rt, &RECORDS, without)?;
+        let mut rest = text.as_slice();
+        for (n, record) in asked(&rt, &RECORDS)?.iter().enumerate() {
+            let Some((proof, behind)) = read_proof(rt.alloc(), rest)? else {
+                assert!(rt; false);
+                continue;
+            };
+            let right = if n == without {
+                Answer::Absent
+            } else {
+                Answer::Present
+            };
+            assert!(rt; confirm(&head, &record.entry(), &proof) == right);
+            let other = if without == 5 {
+                right
+            } else {
+                Answer::NotShown
+            };
+            assert!(rt; confirm(&all, &record.entry(), &proof) == other);
+            rest = behind;
+        }
+        assert!(rt; rest.is_empty());
     }
     Ok(())
 }
 
 #[test]
 fn a_proof_is_read_as_it_is_written(rt: HostRuntime) -> Result<(), Fail> {
-    let mut text = Vec::new(rt.alloc());
-    let Ok(record) = entry_of_octets(RECORDS[2]) else {
-        return Ok(());
-    };
-    let (head, present) = proved(&rt, &record, RECORDS.len())?;
-    let (fewer, absent) = proved(&rt, &record, 2)?;
-    put_proof(&mut text, &absent)?;
-    let first = text.len();
-    put_proof(&mut text, &present)?;
+    let (_, text) = proved(&rt, &RECORDS[2..3], 2)?;
     assert!(rt;
         text.as_slice().starts_with(
             b"absent\nbefore 45 <12>1 2024-02-29T23:00:00.000000Z h a - - - z\n1 2\n"
         )
     );
-    for cut in 0..first {
+    for cut in 0..text.len() {
         assert!(rt; read_proof(rt.alloc(), &text.as_slice()[..cut])?.is_none());
     }
     let Some((proof, rest)) = read_proof(rt.alloc(), text.as_slice())? else {
         assert!(rt; false);
         return Ok(());
     };
-    assert!(rt; confirm(&fewer, &record, &proof) == Answer::Absent);
-    let Some((proof, rest)) = read_proof(rt.alloc(), rest)? else {
-        assert!(rt; false);
-        return Ok(());
-    };
-    assert!(rt; confirm(&head, &record, &proof) == Answer::Present);
     assert!(rt; rest.is_empty());
+    let mut again = Vec::new(rt.alloc());
+    put_proof(&mut again, &proof)?;
+    assert_eq!(rt; again.as_slice(), text.as_slice());
+    assert!(rt; matches!(&proof, Proof::Absent(Some(_), Some(_))));
+    Ok(())
+}
+
+#[test]
+fn a_record_is_asked_for_in_any_spelling(rt: HostRuntime) -> Result<(), Fail> {
+    let spelled = b"<14>1 2024-02-29T23:30:00Z h a - - - y".as_slice();
+    match AskedRecord::read(rt.alloc(), spelled) {
+        Ok(record) => assert_eq!(rt; record.octets.as_slice(), RECORDS[2]),
+        Err(_) => assert!(rt; false),
+    }
+    match AskedRecord::read(rt.alloc(), b"<14>1 ") {
+        Err(AskFault::Bad(_)) => (),
+        _ => assert!(rt; false),
+    }
+    Ok(())
+}
+
+#[test]
+fn records_are_read_from_a_text(rt: HostRuntime) -> Result<(), Fail> {
+    match read_records(rt.alloc(), b"19 <13>1 - h a - - - x9 <13>1 - -x") {
+        Err(RecordsFault::Bad(fault)) => {
+            assert!(rt; matches!(fault, ArchiveFault::BadEntry { at: 22, .. }))
+        }
+        _ => assert!(rt; false),
+    }
+    let mut text = Vec::new(rt.alloc());
+    for _ in 0..ASKED_MAX {
+        text.extend_from_slice(b"19 <13>1 - h a - - - x")?;
+    }
+    match read_records(rt.alloc(), text.as_slice()) {
+        Ok(records) => assert_eq!(rt; records.len(), ASKED_MAX),
+        Err(_) => assert!(rt; false),
+    }
+    text.extend_from_slice(b"1")?;
+    match read_records(rt.alloc(), text.as_slice()) {
+        Err(RecordsFault::TooMany) => (),
+        _ => assert!(rt; false),
+    }
     Ok(())
 }

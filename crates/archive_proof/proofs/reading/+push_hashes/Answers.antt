@@ -1,6 +1,6 @@
-use Rattle.std.proofs.Common.{◌≡◌, ◌++◌, ◌∷◌, [], ◌+◌, ◌-◌, ◌≤◌, List, ℕ, length, sym, ap, subst, ◌∙◌, arith}
+use Rattle.std.proofs.Common.{◌≡◌, ◌++◌, ◌∷◌, [], ◌+◌, List, ℕ, length, sym, ap, ◌∙◌, arith}
 use Rattle.std.proofs.Common.{append_assoc, length-append}
-use Rattle.archive_proof.proofs.Readings.{FirstHash, first_hash, some_then}
+use Rattle.archive_proof.proofs.Readings.{first_hash, some_then}
 use Rattle.archive_proof.proofs.reading.+push_hashes.Goals as goal
 
 pub returns-in_err-next : goal.returns-in_err-next

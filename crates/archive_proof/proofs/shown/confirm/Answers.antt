@@ -1,4 +1,4 @@
-use Rattle.std.proofs.Common.{rules, ◌⊎◌, List, ℕ, sym, subst}
+use Rattle.std.proofs.Common.{rules, ◌⊎◌, sym, subst}
 use Rattle.archive_text.specs.Entries.{Has}
 use Rattle.archive_text.specs.EntryViews.{entry_of}
 use Rattle.archive_proof.specs.Showing.{Collides}

@@ -1,50 +1,31 @@
-use Rattle.std.proofs.Common.{◌≡◌, ◌<◌, ◌^◌, List, ℕ, length, rules, refl, sym, subst, arith}
+use Rattle.std.proofs.Common.{◌<◌, ◌^◌, ◌++◌, ◌∙◌, List, ℕ, length, refl, sym, ap, subst, arith}
 use Rattle.archive_text.specs.Entries.{Entry}
 use Rattle.archive_tree.proofs.Archives.{count_of_texts}
 use Rattle.archive_tree.specs.Archives.{IsRootOf, texts_of}
-use Rattle.archive_proof.specs.Proving.{IsPlaced, IsProving}
-use Rattle.archive_proof.specs.declared.prover.Place.{Place}
-use Rattle.archive_proof.specs.declared.prover.Place.TheVariants.{Found}
-use Rattle.archive_proof.proofs.Endings.{absent_end, present_end, tracked_end}
-use Rattle.archive_proof.proofs.Places.{entry_is_in}
+use Rattle.archive_tree.specs.declared.audit_path.AuditPath.{AuditPath}
+use Rattle.archive_proof.specs.Making.{made_texts}
+use Rattle.archive_proof.specs.Proving.{AreProofsOf}
+use Rattle.archive_proof.specs.declared.search.Search.{Search}
+use Rattle.archive_proof.proofs.Endings.{all_end}
+use Rattle.archive_proof.proofs.Makings.{placed_same, written_back}
 use Rattle.archive_proof.proofs.prover.Prover.finish.Goals as goal
 
-pub returns-in-Found-clause-present : goal.returns-in-Found-clause-present
-returns-in-Found-clause-present c =
-    λ e xs room h order has.
+pub returns-clause-text : goal.returns-clause-text
+returns-clause-text c =
+    λ rs xs room h.
     let fits : length (texts_of xs) < 2 ^ 64 = omega (arith, count_of_texts xs, room) in
     let is : IsRootOf c.finish-head.result xs = c.finish-head.ensures.taken (texts_of xs) fits h.taken in
-    let found : IsPlaced Found e c.args.self xs xs =
-    subst (λ (l : Place). IsPlaced l e c.args.self xs xs) c.in-Found.is h.placed in
-    let done = tracked_end c.finish-head.result e c.args.self c.finish-head.new.paths xs room is
-    c.finish-head.ensures.followed 0 found.0 e c.parted-first.result.0 found.1 c.parted-first.ensures.first in
-    done.1
-
-pub returns-in-Found-clause-absent : goal.returns-in-Found-clause-absent
-returns-in-Found-clause-absent c =
-    λ most e xs room h archive none.
-    let found : IsPlaced Found e c.args.self xs xs =
-    subst (λ (l : Place). IsPlaced l e c.args.self xs xs) c.in-Found.is h.placed in
-    none (entry_is_in xs found.0 e found.1.at)
-
-pub returns-in_default-clause-head : goal.returns-in_default-clause-head
-returns-in_default-clause-head c =
-    λ e xs room h.
-    let fits : length (texts_of xs) < 2 ^ 64 = omega (arith, count_of_texts xs, room) in
-    c.finish-head.ensures.taken (texts_of xs) fits h.taken
-
-pub returns-in_default-clause-present : goal.returns-in_default-clause-present
-returns-in_default-clause-present c =
-    λ e xs room h order has.
-    c.in_default.not-Found (present_end e c.args.self c.args.self.place xs order has h.placed)
-
-pub returns-in_default-clause-absent : goal.returns-in_default-clause-absent
-returns-in_default-clause-absent c =
-    λ most e xs room h archive none.
-    let fits : length (texts_of xs) < 2 ^ 64 = omega (arith, count_of_texts xs, room) in
-    let is : IsRootOf c.finish-head.result xs = c.finish-head.ensures.taken (texts_of xs) fits h.taken in
-    absent_end c.finish-head.result e c.args.self c.finish-head.new.paths xs room is c.finish-head.ensures.followed
-    archive.entries c.parted-first.result.0 c.parted-first.result.1 c.kept.result c.kept-in_default.result
-    c.parted-first.ensures.first
-    c.parted-first.ensures.second (c.kept.ensures.none, c.kept.ensures.some)
-    (c.kept-in_default.ensures.none, c.kept-in_default.ensures.some) c.args.self.place h.placed none
+    let made = all_end c.finish-head.result c.args.self.tree xs room is h.archive.ascending h.archive.entries
+    c.args.self.asked.items c.args.self.searches.items c.as_mut_slice.result.now c.finish-head.new.paths
+    c.finish-head.ensures.followed c.finish-head.auto.paths
+    (placed_same c.args.self.tree xs xs _ _ _ _ _ _ refl refl (sym c.as_mut_slice.ensures.value) h.placed) in
+    let back = written_back _ _ c.finish-head.new.paths (c.finish-head.auto.paths ∙ c.as_mut_slice.ensures.len)
+    (ap length (sym c.as_mut_slice.ensures.value) ∙ c.as_mut_slice.ensures.len) in (
+      made.0,
+      subst (λ (l : List Entry). AreProofsOf c.finish-head.result xs l made.0) h.asked made.1,
+      c.in_ok-put_all.ensures
+          ∙ ap (λ (l : List ℕ). l ++ made_texts c.as_slice.result.now c.as_slice-2.result.now) c.new-text.ensures.items
+          ∙ ap (λ (l : List Search). made_texts l c.as_slice-2.result.now) c.as_slice.ensures.value
+          ∙ ap (λ (l : List AuditPath). made_texts c.args.self.searches.items l) (c.as_slice-2.ensures.value ∙ back)
+          ∙ made.2,
+    )
