@@ -54,14 +54,14 @@ returns-in-Ok-clause-adds g c tells sound octets shown =
     let same = c.deref.ensures.value ∙ c.in_ok-octets.ensures.read tells sound octets shown in
     let behind = behind_of octets c.deref.result.now c.split_at.result.1.now c.in_ok-end.end same
     c.in_ok-end.ensures.ends (c.split_at.ensures.back ∙ ap (drop c.in_ok-end.end) (c.deref-2.ensures.value ∙ sym c.deref.ensures.value)) in
-    let copied = c.in_ok-octets-2.ensures in
+    let copied = c.in_ok-octets-2.ensures.items_if_clones_equal (λ x y same. same) in
     record {
       adds = subst (λ (o : List ℕ). Adds (entries_in c.args.set.now) (entries_in c.add_batches.new.set) (JournalHas o)) same
           c.in_ok-end.ensures.adds;
       whole = subst IsWholeJournal same c.in_ok-end.ensures.whole;
       behind = inr (
         _,
-        c.in-Ok.ensures.ok,
+        c.in-Ok.ensures.items,
         record {
           number_is = refl;
           more = omega (arith, ap length copied);

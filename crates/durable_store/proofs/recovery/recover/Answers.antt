@@ -6,6 +6,7 @@ use Rattle.std.proofs.lemmas.List.{take_all, take_more}
 use Rattle.std.proofs.lemmas.List.Elements.{Contains-push}
 use Rattle.archive_pages.specs.Paged.{entries_in}
 use Rattle.record_store.specs.Causes.{IsCause, listing_causes, opening_causes}
+use Rattle.record_store.specs.Shown.{AreShown}
 use Rattle.record_store.proofs.Causing.{cause_weaker}
 use Rattle.record_store.proofs.Compared.{same_then}
 use Rattle.record_store.proofs.Numbers.{increasing_take, take_part}
@@ -20,7 +21,8 @@ pub loop-number-init : goal.loop-number-init
 loop-number-init g c = record {
   told = λ tells. c.journals.ensures.told tells;
   same = λ tells. c.journals.ensures.same tells;
-  shown = λ tells sound. c.in_ok-numbers.ensures.shown tells sound;
+  shown = λ tells sound. subst (AreShown (g.D.Disk.state c.args.disk.now) 18446744073709551615)
+      (sym c.deref-number-items.ensures.value) (c.in_ok-numbers.ensures.shown tells sound);
   read = λ tells sound. subst (λ l. ReadSo (g.D.Disk.state c.args.disk.now) [] (entries_in c.new-set.result) l)
       (sym c.new-tails.ensures.items)
       (read_none (g.D.Disk.state c.args.disk.now) (entries_in c.new-set.result) c.new-set.ensures);
@@ -30,7 +32,7 @@ pub loop-number-preserved : goal.loop-number-preserved
 loop-number-preserved g c =
     let zero = g.D.Disk.state c.args.disk.now in
     let one = g.D.Disk.state c.loop-number.disk in
-    let numbers = c.in_ok-numbers.numbers.items in
+    let numbers = c.deref-number-items.result.now in
     let index = c.loop-number.number-index in
     let first = take index numbers in
     let number = slice_index numbers index in
@@ -61,7 +63,7 @@ loop-number-preserved g c =
 
 pub returns-clause-recovered : goal.returns-clause-recovered
 returns-clause-recovered g c tells sound =
-    let numbers = c.in_ok-numbers.numbers.items in
+    let numbers = c.deref-number-items.result.now in
     all_recovered (g.D.Disk.state c.args.disk.now) 18446744073709551615 numbers (entries_in c.loop-number.set)
     c.loop-number.tails.items (omega arith) (c.loop-number.invariant.shown tells sound)
     (subst (λ (l : List ℕ). ReadSo (g.D.Disk.state c.args.disk.now) l (entries_in c.loop-number.set)
@@ -70,7 +72,7 @@ returns-clause-recovered g c tells sound =
 
 pub returns-clause-tails : goal.returns-clause-tails
 returns-clause-tails g c tells sound =
-    let numbers = c.in_ok-numbers.numbers.items in
+    let numbers = c.deref-number-items.result.now in
     all_tails (g.D.Disk.state c.args.disk.now) 18446744073709551615 numbers (entries_in c.loop-number.set)
     c.loop-number.tails.items (omega arith) (c.loop-number.invariant.shown tells sound)
     (subst (λ (l : List ℕ). ReadSo (g.D.Disk.state c.args.disk.now) l (entries_in c.loop-number.set)
@@ -100,7 +102,7 @@ returns-in_err-add_journal-clause-cause g c =
     let failed_then = g.D.Disk.has_failed c.add_journal.new.disk in
     let zero = g.D.Disk.state c.args.disk.now in
     let one = g.D.Disk.state c.loop-number.disk in
-    let numbers = c.in_ok-numbers.numbers.items in
+    let numbers = c.deref-number-items.result.now in
     let index = c.loop-number.number-index in
     let first = take index numbers in
     let number = slice_index numbers index in

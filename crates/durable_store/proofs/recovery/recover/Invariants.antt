@@ -11,7 +11,7 @@ invariant-loop-number g l = record {
   told : g.D.Disk.tells l.disk → g.D.Disk.tells l.fn.disk;
   same : g.D.Disk.tells l.disk → IsUnchanged (g.D.Disk.state l.fn.disk) (g.D.Disk.state l.disk);
   shown : g.D.Disk.tells l.disk → IsSound (g.D.Disk.state l.fn.disk)
-      → AreShown (g.D.Disk.state l.fn.disk) 18446744073709551615 l.numbers.items;
+      → AreShown (g.D.Disk.state l.fn.disk) 18446744073709551615 l.number-items;
   read : g.D.Disk.tells l.disk → IsSound (g.D.Disk.state l.fn.disk)
-      → ReadSo (g.D.Disk.state l.fn.disk) (take l.number-index l.numbers.items) (entries_in l.set) l.tails.items;
+      → ReadSo (g.D.Disk.state l.fn.disk) (take l.number-index l.number-items) (entries_in l.set) l.tails.items;
 }
