@@ -476,7 +476,7 @@ share_skipped tells total len state day first behind rest small of counts none =
   share = inr refl;
   held = λ has. absurd (none (subst (IsShare total) (sym counts.len_is)
       (share_part total (length (text_of (first ∷ counts.front))) small has)));
-  still = λ tell sound received archive among name others held. held;
+  still = λ tell sound received archive among others held. held;
   grows = λ tell sound. nothing_grows total (length (text_of (first ∷ counts.front))) state;
 }
 
