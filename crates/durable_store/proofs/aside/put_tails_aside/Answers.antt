@@ -60,6 +60,23 @@ returns-in_err-aside-clause-any_moment g c tells sound are committed received ke
     let there = still_there zero one first c.loop-tail.asides.items tail so is.0 is.1 in
     c.put_aside.ensures.any_moment tells so.sound there committed received (so.keeps committed received keeps)
 
+pub returns-then-is_err-clause-any_moment : goal.returns-then-is_err-clause-any_moment
+returns-then-is_err-clause-any_moment g c tells sound are committed received keeps =
+    let zero = g.D.Disk.state c.args.disk.now in
+    let one = g.D.Disk.state c.loop-tail.disk in
+    let two = g.D.Disk.state c.put_aside.new.disk in
+    let tails = c.args.tails.now in
+    let index = c.loop-tail.tail-index in
+    let first = take index tails in
+    let tail = c.tail-item.result in
+    let more = take_more tails index tail c.loop-tail-test.true
+    ∙ ap (λ (t : Tail). first ++ t ∷ []) (sym c.tail-item.is) in
+    let told = c.put_aside.ensures.told tells in
+    let so = c.loop-tail.invariant.put told sound are in
+    let is = next_tail zero tails first tail index more are in
+    let there = still_there zero one first c.loop-tail.asides.items tail so is.0 is.1 in
+    c.put_aside.ensures.any_moment tells so.sound there committed received (so.keeps committed received keeps)
+
 pub returns-in_err-aside-clause-cause : goal.returns-in_err-aside-clause-cause
 returns-in_err-aside-clause-cause g c =
     let zero = g.D.Disk.state c.args.disk.now in
