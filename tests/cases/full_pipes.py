@@ -298,18 +298,20 @@ def damaged(runs):
     store = with_refused(runs)
     path = store / "refused"
     entries = framed("counted", b"x" * 1_000) * 500
-    for at in 0, len(path.read_bytes()):
-        octets = bytearray(path.read_bytes() + entries)
+    for place in "its front", "the end of what is whole":
+        whole = path.read_bytes()
+        at = 0 if place == "its front" else len(whole)
+        octets = bytearray(whole + entries)
         octets[at] ^= 0x80
         path.write_bytes(octets)
         with runs.until_eof(*any_port("lf"), *SOON, store=store) as server:
             server.send("lf", b"later\n")
             status, lines = server.end()
         told = b"refused: damaged at octet %d: kept as refused.1, and begun anew" % at
-        runs.results.check(f"a file that is damaged at {at}: what is told", status == 1 and told in lines, f"{status} {lines}")
-        runs.results.check(f"a file that is damaged at {at}: it stays", (store / "refused.1").read_bytes() == octets)
+        runs.results.check(f"a file that is damaged at {place}: what is told", status == 1 and told in lines, f"{status} {lines}")
+        runs.results.check(f"a file that is damaged at {place}: it stays", (store / "refused.1").read_bytes() == octets)
         kept = [frame for _, frame in refused_file(store)]
-        runs.results.check(f"a file that is damaged at {at}: a new one", kept == [b"later"], str(kept))
+        runs.results.check(f"a file that is damaged at {place}: a new one", kept == [b"later"], str(kept))
 
 
 def never_turned(runs):
