@@ -17,7 +17,7 @@ from cases.mutated import mutations
 from cases.rows import A, LEGACY_2001, Y, Z, entries
 from cases.serving_stores import KEPT, Sender, segments_of
 from lib import reference
-from lib.loopback import HERE, free_port, kind_of
+from lib.loopback import HERE, NEVER, free_port, kind_of
 from lib.reference import archive_text, counted, counted_frames, framed
 from lib.server import (SOON, Runs, any_port, datagrams_wait, end, family_of, has_ipv6, numbered, refused_file, reset,
                         spelled, until, until_arrived, until_closed, until_taken)
@@ -675,7 +675,9 @@ def managed(runs):
                 server.send("lf", A + b"\n")
                 seen = manager.until_told(b"STATUS=received 1 ")
                 runs.results.check(f"{name}: the counts", seen, str(manager.told[-3:]))
-                runs.ends(f"{name}: told", server, 0, *[line for line in server.lines() if line.startswith(b"received ")])
+                status, lines = server.end()
+                right = status == 0 and all(line.startswith(b"received ") for line in lines)
+                runs.results.check(f"{name}: its end", right, f"{status} {lines}")
                 seen = manager.until_told(b"STOPPING=1")
                 runs.results.check(f"{name}: the end", seen, str(manager.told[-3:]))
                 signs = manager.told.count(b"WATCHDOG=1")
