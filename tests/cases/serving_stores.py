@@ -357,6 +357,7 @@ def fails_at_sync(runs, store):
             if server.process.poll() is None and server.places():
                 committed = server.held()
                 fling(server, one)
+                until(lambda: server.process.poll() is not None or server.held())
         equal(runs, "a sync fails: status", server.status(), 2)
     return committed
 
