@@ -15,8 +15,6 @@ mod folders;
 #[cfg(test)]
 mod journals;
 #[cfg(test)]
-mod older;
-#[cfg(test)]
 mod reading;
 #[cfg(test)]
 mod records;
