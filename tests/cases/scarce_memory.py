@@ -1,5 +1,6 @@
-"""`serve` within a limit on its address space: connections that are silent cost what they hold, and the room of a long frame
-is given back once it has ended."""
+"""`serve` within a limit on its address space: connections that are silent cost what they hold, the room of a long frame is
+given back once it has ended, want of memory ends the connection that it was wanted for alone, and a set that has no room for a
+record is written to the disk."""
 import tempfile
 
 from cases.noisy_senders import with_descriptors
@@ -11,6 +12,7 @@ LIMIT = 128 * MEBIBYTE  # with 262,144 octets for each of the connections below 
 CONNECTIONS = 1_000
 OF_ONE = 250  # from one address of the loopback
 HALF = b"200000 <14>1 - - - - - - "
+MOST = HALF + b"x" * 190_000
 GOOD = b"<14>1 - h good - - - beside them"
 LONG = b"<14>1 - h long - - - " + b"x" * 200_000
 
@@ -38,6 +40,55 @@ def beside(runs, name, first, *records):
             one.close()
 
 
+def half_sent(server, n):
+    """A connection that sends most of a long frame and is silent then, unless it was closed before."""
+    one = server.open("counted", f"127.0.0.{2 + n // OF_ONE}")
+    try:
+        one.sendall(MOST)
+    except OSError:
+        pass  # the server closed it, as it may
+    return one
+
+
+def is_kept(server, number):
+    """Whether a record that a new connection sends is held then, and one that a datagram has."""
+    record, datagram = (b"<14>1 - h good - - - %s %d" % (kind, number) for kind in (b"counted", b"udp"))
+    try:
+        server.send("counted", counted([record]))
+    except OSError:
+        pass
+    server.datagrams("udp", datagram)
+    return until(lambda: {record, datagram} <= server.held(), 2)
+
+
+def long_halves(program, results, path):
+    """Frames that are not whole take more memory than there is: some of their connections are closed, and no other is."""
+    name = "most of a long frame"
+    words = [*any_port("counted"), *any_port("udp"), "--commit", 5, "--connections", 2_048]
+    with Runs(program, results, path).until_eof(*words, front=limited()) as server:
+        silent = [half_sent(server, n) for n in range(CONNECTIONS)]
+        results.check(f"{name}: it is told that connections were closed",
+                      until(lambda: any(b" closed: want of memory" in line for line in server.lines())), str(server.lines()[-3:]))
+        results.check(f"{name}: what others send is kept", any(is_kept(server, number) for number in range(10)),
+                      str(server.lines()[-3:]))
+        results.check(f"{name}: the server goes on", server.process.poll() is None, str(server.lines()[-3:]))
+        for one in silent:
+            one.close()
+
+
+def large_set(program, results, path):
+    """More records come than there is memory for, before a checkpoint is due: all are kept."""
+    name = "a large set"
+    records = [b"<14>1 - h large - - - %d %s" % (number, b"y" * 8_000) for number in range(25_000)]
+    words = [*any_port("counted"), "--commit", 20, "--checkpoint", 2_048]
+    with Runs(program, results, path).until_eof(*words, front=limited()) as server:
+        server.send("counted", counted(records))
+        results.check(f"{name}: all is kept", until(lambda: len(server.held()) == len(records)), str(server.lines()[-3:]))
+        results.check(f"{name}: the server goes on", server.process.poll() is None, str(server.lines()[-3:]))
+        results.check(f"{name}: no connection was closed", not any(b"closed" in line for line in server.lines()),
+                      str(server.lines()[-3:]))
+
+
 def try_all(program, results):
     for name, first, records in [
         ("one octet", b"1", []),
@@ -49,6 +100,12 @@ def try_all(program, results):
                 beside(Runs(program, results, path), name, first, *records)
             except Exception as error:  # a server that has ended too early
                 results.check(f"{name}: it comes to its end", False, repr(error))
+    for case in long_halves, large_set:
+        with tempfile.TemporaryDirectory() as path:
+            try:
+                case(program, results, path)
+            except Exception as error:  # a server that has ended too early
+                results.check(f"{case.__name__}: it comes to its end", False, repr(error))
 
 
 def scarce_memory(program, results):

@@ -174,12 +174,12 @@ refused_settled limit way cs ds h e at n fault a b log os settled stops (grown, 
 pub memory_part : (way : FrameReading) (h : History) (w u v : ℕ → ℕ) (e : Event) (n m : ℕ) (a b : List Entry)
     (os : List Outcome) → ((d : ℕ) → u d ≡ w d) → LogsRefused way h u v e n a b os
     → TakesPartOf way h w v (accepted_event e) os (accepted_part e n (Memory m))
-memory_part way h w u v (event_Opened c k) n m a b os same logs = (refl, logs.0)
+memory_part way h w u v (event_Opened c k) n m a b os same (none, kept, is) = (refl, none, λ d. is d ∙ same d)
 memory_part way h w u v (event_Piece c o) n m a b os same logs =
     let all : u ≡ w = λ i d. same d i in
     (n, a, b, refl, subst (λ (f : ℕ → ℕ). LogsPart way h f v c (take n o.now) a b os) all logs)
-memory_part way h w u v (event_Ended c) n m a b os same logs = (refl, logs.0)
-memory_part way h w u v (event_Datagram o) n m a b os same logs = (refl, logs.0)
+memory_part way h w u v (event_Ended c) n m a b os same (none, kept, is) = (refl, none, λ d. is d ∙ same d)
+memory_part way h w u v (event_Datagram o) n m a b os same (none, kept, is) = (refl, none, λ d. is d ∙ same d)
 
 nothing_of : (c n : ℕ) (o : Bor (List ℕ)) → n ≡ 0 → nonempty_piece c (take n o.now) ≡ []
 nothing_of c n o none = ap (λ (k : ℕ). nonempty_piece c (take k o.now)) none
@@ -226,29 +226,29 @@ piece_as limit way h w u v c n o (Unterminated start) a b os same logs (few, inl
 piece_as limit way h w u v c n o (Unterminated start) a b os same logs (few, inr is) quiet = absurd is
 
 opened_as : (limit : ℕ) (way : FrameReading) (h : History) (w v : ℕ → ℕ) (c n : ℕ) (k : Framing) (fault : CollectFault)
-    (os : List Outcome) → CONNECTIONS_MAX ≤ limit → os ≡ [] → StopsAt limit way h v (event_Opened c k) n fault
-    → ReceivesAs way h w v (Opened c k) (received_as fault) (kept_outcomes fault os) []
-opened_as limit way h w v c n k (Memory m) os many none stops = (refl, none)
-opened_as limit way h w v c n k AlreadyOpen os many none (few, inl e) = absurd (cc)
-opened_as limit way h w v c n k AlreadyOpen os many none (few, inr is) = (refl, refl, inl is)
-opened_as limit way h w v c n k TooManyOpen os many none (few, inl e) = absurd (cc)
-opened_as limit way h w v c n k TooManyOpen os many none (few, inr is) =
+    (os : List Outcome) → CONNECTIONS_MAX ≤ limit → os ≡ [] → ((d : ℕ) → v d ≡ w d)
+    → StopsAt limit way h v (event_Opened c k) n fault → ReceivesAs way h w v (Opened c k) (received_as fault) (kept_outcomes fault os) []
+opened_as limit way h w v c n k (Memory m) os many none same stops = (refl, none, same)
+opened_as limit way h w v c n k AlreadyOpen os many none same (few, inl e) = absurd (cc)
+opened_as limit way h w v c n k AlreadyOpen os many none same (few, inr is) = (refl, refl, inl is)
+opened_as limit way h w v c n k TooManyOpen os many none same (few, inl e) = absurd (cc)
+opened_as limit way h w v c n k TooManyOpen os many none same (few, inr is) =
     let full : CONNECTIONS_MAX ≤ length h.streams = omega (arith, many, is.1) in (refl, refl, inr full)
-opened_as limit way h w v c n k NotOpen os many none (few, inl e) = absurd (cc)
-opened_as limit way h w v c n k NotOpen os many none (few, inr is) = absurd is
-opened_as limit way h w v c n k ConnFailed os many none (few, inl e) = absurd (cc)
-opened_as limit way h w v c n k ConnFailed os many none (few, inr is) = absurd is
-opened_as limit way h w v c n k StreamTooLong os many none (few, inl e) = absurd (cc)
-opened_as limit way h w v c n k StreamTooLong os many none (few, inr is) = absurd is
-opened_as limit way h w v c n k Unreleased os many none (few, inl e) = absurd (cc)
-opened_as limit way h w v c n k Unreleased os many none (few, inr is) = absurd is
-opened_as limit way h w v c n k (Unterminated start) os many none (few, inl e) = absurd (cc)
-opened_as limit way h w v c n k (Unterminated start) os many none (few, inr is) = absurd is
+opened_as limit way h w v c n k NotOpen os many none same (few, inl e) = absurd (cc)
+opened_as limit way h w v c n k NotOpen os many none same (few, inr is) = absurd is
+opened_as limit way h w v c n k ConnFailed os many none same (few, inl e) = absurd (cc)
+opened_as limit way h w v c n k ConnFailed os many none same (few, inr is) = absurd is
+opened_as limit way h w v c n k StreamTooLong os many none same (few, inl e) = absurd (cc)
+opened_as limit way h w v c n k StreamTooLong os many none same (few, inr is) = absurd is
+opened_as limit way h w v c n k Unreleased os many none same (few, inl e) = absurd (cc)
+opened_as limit way h w v c n k Unreleased os many none same (few, inr is) = absurd is
+opened_as limit way h w v c n k (Unterminated start) os many none same (few, inl e) = absurd (cc)
+opened_as limit way h w v c n k (Unterminated start) os many none same (few, inr is) = absurd is
 
 ended_as : (limit : ℕ) (way : FrameReading) (h : History) (w v : ℕ → ℕ) (c n : ℕ) (fault : CollectFault) (os : List Outcome) → os ≡ []
     → ((d : ℕ) → v d ≡ w d) → StopsAt limit way h v (event_Ended c) n fault
     → ReceivesAs way h w v (Ended c) (received_as fault) (kept_outcomes fault os) (accepted_refused_end c fault)
-ended_as limit way h w v c n (Memory m) os none same stops = (refl, none)
+ended_as limit way h w v c n (Memory m) os none same stops = (refl, none, same)
 ended_as limit way h w v c n (Unterminated start) os none same (few, inl e) = absurd (cc)
 ended_as limit way h w v c n (Unterminated start) os none same (few, inr is) = (refl, refl, same, is.0)
 ended_as limit way h w v c n NotOpen os none same (few, inl e) = absurd (cc)
@@ -265,37 +265,37 @@ ended_as limit way h w v c n StreamTooLong os none same (few, inl e) = absurd (c
 ended_as limit way h w v c n StreamTooLong os none same (few, inr is) = absurd is.0
 
 datagram_as : (limit : ℕ) (way : FrameReading) (h : History) (w v : ℕ → ℕ) (n : ℕ) (o : Bor (List ℕ)) (fault : CollectFault)
-    (os : List Outcome) → os ≡ [] → StopsAt limit way h v (event_Datagram o) n fault
+    (os : List Outcome) → os ≡ [] → ((d : ℕ) → v d ≡ w d) → StopsAt limit way h v (event_Datagram o) n fault
     → ReceivesAs way h w v (Datagram o.now) (received_as fault) (kept_outcomes fault os) []
-datagram_as limit way h w v n o (Memory m) os none stops = (refl, none)
-datagram_as limit way h w v n o AlreadyOpen os none (few, inl e) = absurd (cc)
-datagram_as limit way h w v n o AlreadyOpen os none (few, inr is) = let e = is.0 in absurd (cc)
-datagram_as limit way h w v n o TooManyOpen os none (few, inl e) = absurd (cc)
-datagram_as limit way h w v n o TooManyOpen os none (few, inr is) = let e = is.0 in absurd (cc)
-datagram_as limit way h w v n o NotOpen os none (few, inl e) = absurd (cc)
-datagram_as limit way h w v n o NotOpen os none (few, inr is) = let e = is.0 in absurd (cc)
-datagram_as limit way h w v n o ConnFailed os none (few, inl e) = absurd (cc)
-datagram_as limit way h w v n o ConnFailed os none (few, inr is) = let e = is.0 in absurd (cc)
-datagram_as limit way h w v n o StreamTooLong os none (few, inl e) = absurd (cc)
-datagram_as limit way h w v n o StreamTooLong os none (few, inr is) = let e = is.0 in absurd (cc)
-datagram_as limit way h w v n o Unreleased os none (few, inl e) = absurd (cc)
-datagram_as limit way h w v n o Unreleased os none (few, inr is) = let e = is.0 in absurd (cc)
-datagram_as limit way h w v n o (Unterminated start) os none (few, inl e) = absurd (cc)
-datagram_as limit way h w v n o (Unterminated start) os none (few, inr is) = let e = is.0 in absurd (cc)
+datagram_as limit way h w v n o (Memory m) os none same stops = (refl, none, same)
+datagram_as limit way h w v n o AlreadyOpen os none same (few, inl e) = absurd (cc)
+datagram_as limit way h w v n o AlreadyOpen os none same (few, inr is) = let e = is.0 in absurd (cc)
+datagram_as limit way h w v n o TooManyOpen os none same (few, inl e) = absurd (cc)
+datagram_as limit way h w v n o TooManyOpen os none same (few, inr is) = let e = is.0 in absurd (cc)
+datagram_as limit way h w v n o NotOpen os none same (few, inl e) = absurd (cc)
+datagram_as limit way h w v n o NotOpen os none same (few, inr is) = let e = is.0 in absurd (cc)
+datagram_as limit way h w v n o ConnFailed os none same (few, inl e) = absurd (cc)
+datagram_as limit way h w v n o ConnFailed os none same (few, inr is) = let e = is.0 in absurd (cc)
+datagram_as limit way h w v n o StreamTooLong os none same (few, inl e) = absurd (cc)
+datagram_as limit way h w v n o StreamTooLong os none same (few, inr is) = let e = is.0 in absurd (cc)
+datagram_as limit way h w v n o Unreleased os none same (few, inl e) = absurd (cc)
+datagram_as limit way h w v n o Unreleased os none same (few, inr is) = let e = is.0 in absurd (cc)
+datagram_as limit way h w v n o (Unterminated start) os none same (few, inl e) = absurd (cc)
+datagram_as limit way h w v n o (Unterminated start) os none same (few, inr is) = let e = is.0 in absurd (cc)
 
 event_as : (limit : ℕ) (way : FrameReading) (h : History) (w u v : ℕ → ℕ) (e : Event) (n : ℕ) (fault : CollectFault) (a b : List Entry)
     (os : List Outcome) → CONNECTIONS_MAX ≤ limit → ((d : ℕ) → u d ≡ w d) → LogsRefused way h u v e n a b os
     → StopsAt limit way h v e n fault
     → ((c : ℕ) → IsSomeAnd (stream_of c h.streams) HoldsBadCount → w c ≡ 0)
     → ReceivesAs way h w v (accepted_event e) (received_as fault) (kept_outcomes fault os) (accepted_part e n fault)
-event_as limit way h w u v (event_Opened c k) n fault a b os many same logs stops quiet =
-    opened_as limit way h w v c n k fault os many logs.0 stops
+event_as limit way h w u v (event_Opened c k) n fault a b os many same (none, kept, is) stops quiet =
+    opened_as limit way h w v c n k fault os many none (λ d. is d ∙ same d) stops
 event_as limit way h w u v (event_Piece c o) n fault a b os many same logs stops quiet =
     piece_as limit way h w u v c n o fault a b os same logs stops (quiet c)
 event_as limit way h w u v (event_Ended c) n fault a b os many same (none, kept, is) stops quiet =
     ended_as limit way h w v c n fault os none (λ d. is d ∙ same d) stops
-event_as limit way h w u v (event_Datagram o) n fault a b os many same logs stops quiet =
-    datagram_as limit way h w v n o fault os logs.0 stops
+event_as limit way h w u v (event_Datagram o) n fault a b os many same (none, kept, is) stops quiet =
+    datagram_as limit way h w v n o fault os none (λ d. is d ∙ same d) stops
 
 pub stopped_as : (limit : ℕ) (way : FrameReading) (cs : Connections) (v : ℕ → ℕ) (kept first : List Entry) (es : List AcceptedEvent)
     (e : Event) (at n : ℕ) (fault : CollectFault) (a b : List Entry) (log os : List Outcome)

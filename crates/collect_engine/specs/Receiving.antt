@@ -74,15 +74,15 @@ MayNotCome h w (Piece c o) = (stream_of c h.streams ≡ None)
 MayNotCome h w (Ended c) = (stream_of c h.streams ≡ None) ⊎ (w c ≡ 1)
 MayNotCome h w (Datagram o) = ⊥
 
--- what was taken of an event before memory ran out, and its outcomes: nothing; or the first octets of a piece, and the
--- outcomes of the frames that they complete, but for one that waits
+-- what was taken of an event before memory ran out, and its outcomes: nothing, so that as many frames wait as before; or
+-- the first octets of a piece, and the outcomes of the frames that they complete, but for one that waits
 abbrev pub TakesPartOf : FrameReading → History → (ℕ → ℕ) → (ℕ → ℕ) → AcceptedEvent → List Outcome → List AcceptedEvent
     → Type 0
-TakesPartOf way h w v (Opened c k) os es = (es ≡ []) × (os ≡ [])
+TakesPartOf way h w v (Opened c k) os es = (es ≡ []) × (os ≡ []) × ((d : ℕ) → v d ≡ w d)
 TakesPartOf way h w v (Piece c o) os es = (n : ℕ) × (old : List Entry) × (new : List Entry)
     × (es ≡ nonempty_piece c (take n o)) × LogsPart way h w v c (take n o) old new os
-TakesPartOf way h w v (Ended c) os es = (es ≡ []) × (os ≡ [])
-TakesPartOf way h w v (Datagram o) os es = (es ≡ []) × (os ≡ [])
+TakesPartOf way h w v (Ended c) os es = (es ≡ []) × (os ≡ []) × ((d : ℕ) → v d ≡ w d)
+TakesPartOf way h w v (Datagram o) os es = (es ≡ []) × (os ≡ []) × ((d : ℕ) → v d ≡ w d)
 
 -- an event after a history is accepted as these events, and has these outcomes: w tells how many frames of each number
 -- waited, and v how many wait then

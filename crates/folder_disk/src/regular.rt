@@ -137,7 +137,7 @@ impl<F> RegularFile<F> {
     pub(crate) fn require_name<R: Files>(&self, rt: &R, path: &str) -> io::Result<()> {
         match fs::symlink_metadata(rt, path) {
             Ok(named) if are_same(&named, &self.found) => Ok(()),
-            Err(error) if error.kind() == ErrorKind::OutOfMemory => Err(error),
+            Err(error) if error.kind() != ErrorKind::NotFound => Err(error),
             _ => Err(io::Error::other("it was moved or removed")),
         }
     }

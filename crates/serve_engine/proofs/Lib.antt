@@ -1,5 +1,6 @@
 pub mod Rows
 pub mod Opening
+pub mod Ending
 pub mod Counted
 pub mod Kept
 pub mod Refused

@@ -1,7 +1,7 @@
 -- Frames that are kept as an observer is told of them.
 use Rattle.std.proofs.Common.{◌≡◌, ℕ, ◌+◌, List, [], ◌∷◌, ◌++◌, length, take, drop, ap, refl, sym, ◌∙◌, subst, inl, inr}
 use Rattle.std.proofs.Common.{append_assoc, arith, length-append}
-use Rattle.std.specs.Prelude.{◌⊎◌, Bool, Option, Some, None, IsSomeAnd}
+use Rattle.std.specs.Prelude.{◌⊎◌, Bool, false, Option, Some, None, IsSomeAnd}
 use Rattle.std.proofs.lemmas.List.{append-nil, append_cancel_left, take-append-drop}
 use Rattle.archive_text.specs.Entries.{Entry}
 use Rattle.octet_devices.specs.Device.{OutputState}
@@ -23,11 +23,11 @@ use Rattle.collect_engine.specs.declared.receiving.Received.TheVariants as recei
 use Rattle.serve_engine.specs.Counts.{CountsBroken, octets_counted}
 use Rattle.serve_engine.specs.Events.{IsAccepted, Manner}
 use Rattle.serve_engine.specs.Refusals.{KeepsEach, KeepsFrames, KeepsNext, KeepsNoFrame, KeepsPiece}
-use Rattle.serve_engine.specs.Refusals.{come, kept_in}
+use Rattle.serve_engine.specs.Refusals.{KeepsSilent, come, kept_in}
 use Rattle.serve_engine.specs.declared.counts.ServeCounts.{ServeCounts}
 use Rattle.serve_engine.specs.declared.report.Report.{Report}
 use Rattle.serve_engine.specs.declared.turn.Turn.{Turn}
-use Rattle.serve_engine.proofs.Counted.{broken_one, broken_twice}
+use Rattle.serve_engine.proofs.Counted.{broken_one, broken_twice, dropped_none}
 
 -- what an observer is told is told of a part of it
 one_part : {O P : Type 0} (t : P → Outcome → Option (List ℕ) → P → Type 0) (m : O → P) (x y : O) (fs : List (List ℕ))
@@ -294,13 +294,17 @@ kept_behind c octets h w waits os x y none bad (n, told, heard, same) = at (stre
         (hears.fresh ++ hears.waiting_now) (append-nil hears.handled ∙ handled ∙ sym now) in
         silent x y hears.fresh outs (first_empty hears.fresh hears.waiting_now more) hears.told
 
+-- nothing was kept where nothing changed
+still_silent : (y : OutputState × ServeCounts) → KeepsSilent false y y
+still_silent y = ((refl, omega arith), dropped_none y.1 y.1 refl)
+
 -- what was kept of a piece, by what was accepted of it
 pub kept_frames : {way : Manner} {before here : List AcceptedEvent} {c : ℕ} {octets : List ℕ} {lost : Bool}
     {turn : Turn} (taken : IsAccepted way before (Piece c octets) here lost turn) (x y : OutputState × ServeCounts)
     → HearsReceived KeepsNext (stream_of c (history_of before).streams) octets (taken.is.0 c) (taken.is.1 c)
     taken.outcomes x y → KeepsFrames taken x y
 kept_frames {way = way} {before = before} {c = c} {octets = octets} taken x y heard = record {
-  told = heard;
+  told = (y, heard, still_silent y);
   whole = λ own. by_answer taken.received taken.own own taken.is.4;
   passed = λ own accepted. behind taken.received taken.own own accepted taken.is.4;
 }
@@ -325,6 +329,19 @@ kept_frames {way = way} {before = before} {c = c} {octets = octets} taken x y he
     behind (received.Unterminated start) own is accepted part = absurd (cc)
     behind received.Refused own is accepted part = absurd (cc)
     behind received.Memory own is accepted part = absurd (cc)
+
+-- and where memory was wanted for it, and then it was told that its connection is lost
+pub kept_starved : {way : Manner} {before here : List AcceptedEvent} {c : ℕ} {octets : List ℕ} {lost : Bool}
+    {turn : Turn} (taken : IsAccepted way before (Piece c octets) here lost turn) (x y z : OutputState × ServeCounts)
+    → taken.received ≡ received.Memory
+    → HearsReceived KeepsNext (stream_of c (history_of before).streams) octets (taken.is.0 c) (taken.is.1 c)
+    taken.outcomes x y → KeepsSilent false y z → KeepsFrames taken x z
+kept_starved {before = before} {c = c} {octets = octets} taken x y z memory heard silent = record {
+  told = (y, heard, silent);
+  whole = λ own. subst (λ (r : Received). IfNotMemory r (KeepsPiece (stream_of c (history_of before).streams) octets
+      taken.outcomes x z)) (sym memory) tt;
+  passed = λ own accepted. absurd (cc);
+}
 
 -- ---- a datagram
 

@@ -1,7 +1,7 @@
 -- Turns, one after the other.
 use Rattle.std.proofs.Common.{◌≡◌, ℕ, ◌+◌, true, false, List, [], ◌∷◌, ◌++◌, length, inl, inr, refl, sym, subst, arith}
-use Rattle.std.proofs.Common.{append_assoc}
-use Rattle.std.specs.Prelude.{◌-◌, ◌^◌, ◌<◌, Bool, IfNone, Option, Some, None}
+use Rattle.std.proofs.Common.{◌∙◌, ap, append_assoc}
+use Rattle.std.specs.Prelude.{◌-◌, ◌^◌, ◌<◌, Bool, IfNone, Option, Some, None, if◌then◌else◌}
 use Rattle.std.proofs.lemmas.List.{append-nil}
 use Rattle.archive_text.specs.Entries.{Entry}
 use Rattle.syslog_collect.specs.Collectors.{NoneWaits, reading_of}
@@ -13,7 +13,7 @@ use Rattle.serve_engine.specs.Intakes.{IsCommitted, StandsBy}
 use Rattle.serve_engine.specs.Keepings.{Kept, StaysCommitted}
 use Rattle.serve_engine.specs.Refusals.{KeepsSilent}
 use Rattle.serve_engine.specs.Servers.{AreTurns, Around, DoneRun, GoOn, IsGiven, IsTurn, Made, Place}
-use Rattle.serve_engine.specs.Servers.{RunsTo, ServesRun, ServesTurn, around_after, events_of, kept_after}
+use Rattle.serve_engine.specs.Servers.{RunsTo, ServesRun, ServesTurn, around_after, events_of, kept_after, rests}
 use Rattle.serve_engine.specs.Serving.{CommitsAll, GivesStep, HoldsReceived, IfCommitted, IfSettled, IsCause, IsCommitTurn}
 use Rattle.serve_engine.specs.Serving.{IsStepTurn, ServesStep, UnlessStopped, asks_commit, is_due, is_last}
 use Rattle.serve_engine.specs.declared.intake.Intake.{Intake}
@@ -45,14 +45,24 @@ holds_all entries stands way i full t j first es same at settled commits =
     (λ done none. subst (λ (w : Manner). HoldsReceived w.reading j.committed first es) same
     (committed_all entries stands i j first es at none done))
 
--- the disk was full, and was tried again
+-- where nothing is read
+pub rests_full : (a : Around) → a.full ≡ true → rests a ≡ true
+rests_full a is = ap (λ (b : Bool). if b then true else a.short) is
+
+pub rests_short : (a : Around) → a.full ≡ false → a.short ≡ true → rests a ≡ true
+rests_short a room is = ap (λ (b : Bool). if b then true else a.short) room ∙ is
+
+pub reads : (a : Around) → a.full ≡ false → a.short ≡ false → rests a ≡ false
+reads a room enough = ap (λ (b : Bool). if b then true else a.short) room ∙ enough
+
+-- nothing was read, and a commit was tried
 pub tried : {S K : Type 0} (entries : S → List Entry) (stands : K → Kept → Type 0) (a b : Place S K) (t : Turn)
-    → a.around.full ≡ true → b.around.source ≡ a.around.source
+    → rests a.around ≡ true → b.around.source ≡ a.around.source
     → CommitsAll entries stands a.intake b.intake b.around.full t
     → (NoneWaits a.intake.collector → NoneWaits b.intake.collector)
     → manner_of b.intake.collector ≡ manner_of a.intake.collector → IsCommitTurn t
     → KeepsSilent true a.around.refusals b.around.refusals → ServesTurn entries stands t a b
-tried entries stands a b t was_full still commits settled same turn kept = record {
+tried entries stands a b t rest still commits settled same turn kept = record {
   step = None;
   lost = false;
   given = given;
@@ -81,11 +91,11 @@ tried entries stands a b t was_full still commits settled same turn kept = recor
 }
   where
     given : IsGiven a.around b.around None false
-    given = record { asked = sym was_full; gave = still; silent = kept }
+    given = record { asked = sym rest; gave = still; silent = kept }
 
 -- a step was served
 pub stepped : {S K : Type 0} (entries : S → List Entry) (stands : K → Kept → Type 0) (a b : Place S K)
-    (s : ServerStep) (buf : List ℕ) (lost : Bool) (t : Turn) → a.around.full ≡ false
+    (s : ServerStep) (buf : List ℕ) (lost : Bool) (t : Turn) → rests a.around ≡ false
     → ServesStep entries stands a.intake b.intake s (octets_of s buf) lost b.around.full t a.around.refusals
     b.around.refusals
     → GivesStep a.around.source b.around.source (given_of s buf) lost
@@ -93,7 +103,7 @@ pub stepped : {S K : Type 0} (entries : S → List Entry) (stands : K → Kept �
     → manner_of b.intake.collector ≡ manner_of a.intake.collector
     → (asks_commit s ≡ false → b.around.full ≡ a.around.full) → IsStepTurn s t
     → (is_last s ≡ true → t ≡ On → b.around.full ≡ true) → ServesTurn entries stands t a b
-stepped entries stands a b s buf lost t room serves gives silent same fills turn last = record {
+stepped entries stands a b s buf lost t awake serves gives silent same fills turn last = record {
   step = Some (given_of s buf);
   lost = lost;
   given = given;
@@ -119,7 +129,7 @@ stepped entries stands a b s buf lost t room serves gives silent same fills turn
 }
   where
     given : IsGiven a.around b.around (Some (given_of s buf)) lost
-    given = record { asked = sym room; gave = gives; silent = silent }
+    given = record { asked = sym awake; gave = gives; silent = silent }
 
 -- ---- a run
 

@@ -1,27 +1,30 @@
 -- What is accepted of a step, and when all is committed.
 use Rattle.std.proofs.Common.{◌≡◌, ℕ, true, false, List, [], ◌++◌, inl, inr, refl, sym, ◌∙◌, ap, subst}
-use Rattle.std.specs.Prelude.{◌⊎◌, ◌↔◌, Bool, Option, Some, None}
+use Rattle.std.specs.Prelude.{◌⊎◌, ◌↔◌, ◌==◌, Bool, Option, Some, None, take}
+use Rattle.std.proofs.lemmas.Bool.Decides.{eqb_tells}
 use Rattle.std.proofs.lemmas.List.{append-nil}
 use Rattle.archive_text.specs.Entries.{Entry, Has}
 use Rattle.octet_devices.specs.Device.{OutputState}
-use Rattle.collect_engine.specs.Receiving.{IfNotMemory}
+use Rattle.collect_engine.specs.Receiving.{IfNotMemory, ReceivesAs}
 use Rattle.collect_engine.specs.declared.receiving.Received.{Received}
 use Rattle.collect_engine.specs.declared.receiving.Received.TheVariants as received
 use Rattle.syslog_frame.specs.declared.framing.Framing.{Framing}
+use Rattle.syslog_legacy.specs.declared.frame_reading.FrameReading.{FrameReading}
 use Rattle.syslog_collect.specs.Collectors.{NoneWaits, reading_of, store_of}
 use Rattle.syslog_collect.specs.Frames.{IsReceived}
-use Rattle.syslog_collect.specs.History.{AcceptedEvent, Ended, Opened, Piece}
+use Rattle.syslog_collect.specs.History.{AcceptedEvent, Datagram, Ended, History, Opened, Piece}
+use Rattle.syslog_collect.specs.Logs.{LogsPart}
 use Rattle.syslog_collect.specs.declared.outcome.Outcome.{Outcome}
 use Rattle.syslog_collect.proofs.Headline.{holds_received}
 use Rattle.socket_source.specs.declared.step.ServerStep.{ServerStep}
 use Rattle.socket_source.specs.declared.step.ServerStep.TheVariants as step
 use Rattle.serve_engine.specs.Events.{IsAccepted, IsReceivedAs, Manner, Receives, ends_in_bad_count, event_of, loses}
-use Rattle.serve_engine.specs.Events.{loses_opening, loses_piece, manner_of, turn_after, turn_of}
+use Rattle.serve_engine.specs.Events.{NoneOf, loses_opening, loses_piece, manner_of, turn_after, turn_of, waits_in}
 use Rattle.serve_engine.specs.Intakes.{IsCommitted, StandsBy}
 use Rattle.serve_engine.specs.Keepings.{Kept}
 use Rattle.serve_engine.specs.Serving.{Accepts, CommitsAll, EndsUnlessFull, FaultsAs, HoldsReceived, IfSettled}
 use Rattle.serve_engine.specs.Serving.{IsCommitTurn, IsEventTurn, IsStepTurn, IsTryTurn, ServesEvent, ServesStep}
-use Rattle.serve_engine.specs.Serving.{IsToldFull, UnlessMemory, UnlessStopped, asks_commit, is_of_stream}
+use Rattle.serve_engine.specs.Serving.{IsToldFull, UnlessMemory, UnlessStopped, asks_commit, is_piece}
 use Rattle.serve_engine.specs.declared.counts.ServeCounts.{ServeCounts}
 use Rattle.serve_engine.specs.declared.intake.Intake.{Intake}
 use Rattle.serve_engine.specs.declared.keeping.KeepFault.{KeepFault}
@@ -36,7 +39,8 @@ use Rattle.serve_engine.specs.declared.turn.Turn.TheVariants.{On, End}
 -- what a collector makes of an event is accepted, where its connection is not lost
 abbrev pub accepted_own : (way : Manner) (before : List AcceptedEvent) (e : AcceptedEvent) (r : Received)
     (os : List Outcome) (own : List AcceptedEvent) (turn : Turn) → IsReceivedAs way before e r os own
-    → loses e r os ≡ false → turn ≡ turn_of e r → IsAccepted way before e own false turn
+    → loses e r os (waits_in e is.1) ≡ false → turn ≡ turn_of e r (waits_in e is.1)
+    → IsAccepted way before e own false turn
 accepted_own way before e r os own turn is kept on = record {
   received = r;
   outcomes = os;
@@ -66,9 +70,9 @@ accepted_none way before c k r os own turn is lost on = record {
 -- with the end of a connection that is lost
 abbrev pub accepted_closing : (way : Manner) (before : List AcceptedEvent) (c : ℕ) (o : List ℕ) (r : Received)
     (os : List Outcome) (own closing : List AcceptedEvent) (turn : Turn) → IsReceivedAs way before (Piece c o) r os own
-    → loses_piece r os ≡ true → Receives way (before ++ own) (Ended c) closing turn
+    → loses_piece r os (is.1 c) ≡ true → Receives way (before ++ own) (Ended c) closing → turn ≡ On
     → IsAccepted way before (Piece c o) (own ++ closing) true turn
-accepted_closing way before c o r os own closing turn is lost ends = record {
+accepted_closing way before c o r os own closing turn is lost ends on = record {
   received = r;
   outcomes = os;
   own = own;
@@ -76,7 +80,7 @@ accepted_closing way before c o r os own closing turn is lost ends = record {
   is = is;
   all = refl;
   lost_as = sym lost;
-  ends = ends;
+  ends = (ends, on);
 }
 
 -- an opening that is not accepted loses its connection
@@ -87,31 +91,62 @@ lost_opening received.Refused other = refl
 lost_opening received.Memory other = refl
 
 -- of a piece that was taken, its outcomes tell whether the connection is lost
-pub lost_taken : (r : Received) (os : List Outcome) (b : Bool)
+pub lost_taken : (r : Received) (os : List Outcome) (waits : ℕ) (b : Bool)
     → (r ≡ received.Accepted) ⊎ ((start : ℕ) × (r ≡ received.Unterminated start)) → ends_in_bad_count os ≡ b
-    → loses_piece r os ≡ b
-lost_taken r os b (inl is) bad = subst (λ (q : Received). loses_piece q os ≡ b) (sym is) bad
-lost_taken r os b (inr (start, is)) bad = subst (λ (q : Received). loses_piece q os ≡ b) (sym is) bad
+    → loses_piece r os waits ≡ b
+lost_taken r os waits b (inl is) bad = subst (λ (q : Received). loses_piece q os waits ≡ b) (sym is) bad
+lost_taken r os waits b (inr (start, is)) bad = subst (λ (q : Received). loses_piece q os waits ≡ b) (sym is) bad
 
-pub taken_on : (r : Received) → (r ≡ received.Accepted) ⊎ ((start : ℕ) × (r ≡ received.Unterminated start)) → On ≡ turn_after r
-taken_on r (inl is) = sym (ap turn_after is)
-taken_on r (inr (start, is)) = sym (ap turn_after is)
+pub taken_on : (r : Received) (waits : ℕ)
+    → (r ≡ received.Accepted) ⊎ ((start : ℕ) × (r ≡ received.Unterminated start)) → On ≡ turn_after r waits
+taken_on r waits (inl is) = sym (ap (λ (q : Received). turn_after q waits) is)
+taken_on r waits (inr (start, is)) = sym (ap (λ (q : Received). turn_after q waits) is)
+
+-- where memory was wanted, the frame that waits tells
+pub lost_memory : (r : Received) (os : List Outcome) (waits : ℕ) → r ≡ received.Memory → waits ≡ 0
+    → loses_piece r os waits ≡ true
+lost_memory r os waits is none =
+    subst (λ (q : Received). loses_piece q os waits ≡ true) (sym is) (ap (λ (n : ℕ). n == 0) none)
+
+pub kept_memory : (r : Received) (os : List Outcome) (waits : ℕ) → r ≡ received.Memory → waits ≡ 1
+    → loses_piece r os waits ≡ false
+kept_memory r os waits is one =
+    subst (λ (q : Received). loses_piece q os waits ≡ false) (sym is) (ap (λ (n : ℕ). n == 0) one)
+
+pub ended_memory : (r : Received) (waits : ℕ) → r ≡ received.Memory → waits ≡ 1 → End Memory ≡ turn_after r waits
+ended_memory r waits is one = sym (ap (λ (q : Received). turn_after q waits) is ∙ ap (turn_after received.Memory) one)
+
+-- of a datagram no frame waits
+pub quiet_datagram : (way : FrameReading) (h : History) (w v : ℕ → ℕ) (o : List ℕ) (r : Received) (os : List Outcome)
+    (es : List AcceptedEvent) → NoneOf w → IfNotMemory r (NoneOf v) → ReceivesAs way h w v (Datagram o) r os es → NoneOf v
+quiet_datagram way h w v o received.Accepted os es none quiet is = quiet
+quiet_datagram way h w v o (received.Unterminated start) os es none quiet is = quiet
+quiet_datagram way h w v o received.Refused os es none quiet is = quiet
+quiet_datagram way h w v o received.Memory os es none quiet (nothing, empty, same) = λ d. same d ∙ none d
+
+-- nor of a piece, but of its own connection
+quiet_part : (way : FrameReading) (h : History) (w v : ℕ → ℕ) (c : ℕ) (o : List ℕ) (a b : List Entry)
+    (os : List Outcome) → NoneOf w → v c ≡ 0 → LogsPart way h w v c o a b os → NoneOf v
+quiet_part way h w v c o a b os none own (inl (empty, nothing, kept, same)) d = same d ∙ none d
+quiet_part way h w v c o a b os none own (inr (logs, others)) d = elim (eqb_tells c d) [
+  | inl (same, eq) ↦ subst (λ (m : ℕ). v m ≡ 0) eq own
+  | inr (other, ne) ↦ others d ne ∙ none d
+]
+
+pub quiet_memory : (way : FrameReading) (h : History) (w v : ℕ → ℕ) (c : ℕ) (o : List ℕ) (r : Received)
+    (os : List Outcome) (es : List AcceptedEvent) → r ≡ received.Memory → NoneOf w → v c ≡ 0
+    → ReceivesAs way h w v (Piece c o) r os es → NoneOf v
+quiet_memory way h w v c o r os es memory none own is =
+    at (subst (λ (q : Received). ReceivesAs way h w v (Piece c o) q os es) memory is)
+  where
+    at : ReceivesAs way h w v (Piece c o) received.Memory os es → NoneOf v
+    at (n, a, b, taken, logs) = quiet_part way h w v c (take n o) a b os none own logs
 
 pub never_memory : (r : Received) (P : Type 0) → P → IfNotMemory r P
 never_memory received.Accepted P h = h
 never_memory (received.Unterminated start) P h = h
 never_memory received.Refused P h = h
 never_memory received.Memory P h = tt
-
--- where memory did not run out, it goes on
-settled_turn : (r : Received) (P : Type 0) → IfNotMemory r P → IfSettled (turn_after r) P
-settled_turn received.Accepted P h = h
-settled_turn (received.Unterminated start) P h = h
-settled_turn received.Refused P h = h
-settled_turn received.Memory P h = tt
-
-pub after_event : (t : Turn) (r : Received) (P : Type 0) → t ≡ turn_after r → IfNotMemory r P → IfSettled t P
-after_event t r P is h = subst (λ (u : Turn). IfSettled u P) (sym is) (settled_turn r P h)
 
 pub still_settled : (r : Received) (P : Type 0)
     → (r ≡ received.Accepted) ⊎ ((start : ℕ) × (r ≡ received.Unterminated start)) → IfNotMemory r P → P
@@ -224,7 +259,10 @@ serves_nothing {S = S} {K = K} entries stands old new s octets full t was now is
   λ rests. refl,
 )
 
-pub event_step : (s : ServerStep) (t : Turn) → is_of_stream s ≡ true → IsEventTurn t → IsStepTurn s t
+pub goes_on : (s : ServerStep) (t : Turn) → t ≡ On → IsStepTurn s t
+goes_on s t is = subst (IsStepTurn s) (sym is) tt
+
+pub event_step : (s : ServerStep) (t : Turn) → is_piece s ≡ true → IsEventTurn t → IsStepTurn s t
 event_step s t came (inl is) = subst (IsStepTurn s) (sym is) tt
 event_step s t came (inr is) = subst (IsStepTurn s) (sym is) came
 

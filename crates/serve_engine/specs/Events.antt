@@ -1,5 +1,5 @@
 -- What a server makes of one event.
-use Rattle.std.specs.Prelude.{◌≡◌, ◌-◌, ℕ, Bool, true, false, List, [], ◌++◌, length, slice_get, Option, Some, None}
+use Rattle.std.specs.Prelude.{◌≡◌, ◌-◌, ◌==◌, ℕ, suc, Bool, true, false, List, [], ◌++◌, length, slice_get, Option, Some, None}
 use Rattle.std.specs.Prelude.{Result, Ok, Err}
 use Rattle.collect_engine.specs.Receiving.{IfNotMemory, IfRefused, MayNotOpen, ReceivesAs}
 use Rattle.collect_engine.specs.declared.receiving.Received.{Received}
@@ -50,6 +50,18 @@ IsReceivedAs way before e r os own = (w : ℕ → ℕ) × (v : ℕ → ℕ) × N
     × ReceivesAs way.reading (history_of before) w v e r os own
     × IfRefused r (MayNotOpen way.limit (history_of before) e)
 
+-- what became of an end
+abbrev pub ending_of : {U : Type 0} → Result U CollectFault → Received
+ending_of (Ok u) = received.Accepted
+ending_of (Err (fault.Unterminated start)) = received.Unterminated start
+ending_of (Err (fault.Memory used)) = received.Refused
+ending_of (Err fault.AlreadyOpen) = received.Refused
+ending_of (Err fault.TooManyOpen) = received.Refused
+ending_of (Err fault.NotOpen) = received.Refused
+ending_of (Err fault.ConnFailed) = received.Refused
+ending_of (Err fault.StreamTooLong) = received.Refused
+ending_of (Err fault.Unreleased) = received.Refused
+
 -- what became of an opening
 abbrev pub opening_of : {U : Type 0} → Result U CollectFault → Received
 opening_of (Ok u) = received.Accepted
@@ -62,24 +74,31 @@ opening_of (Err fault.StreamTooLong) = received.Refused
 opening_of (Err fault.Unreleased) = received.Refused
 opening_of (Err (fault.Unterminated start)) = received.Refused
 
--- how it goes on where memory was wanted for what an open connection or a datagram had
-abbrev pub turn_after : Received → Turn
-turn_after received.Accepted = On
-turn_after (received.Unterminated start) = On
-turn_after received.Refused = On
-turn_after received.Memory = End Memory
+-- how many frames wait of the connection whose piece came, where so many of each number do
+abbrev pub waits_in : AcceptedEvent → (ℕ → ℕ) → ℕ
+waits_in (Opened c k) v = 0
+waits_in (Piece c o) v = v c
+waits_in (Ended c) v = 0
+waits_in (Datagram o) v = 0
 
--- how it goes on after an event: always with the next step, where that is an opening
-abbrev pub turn_of : AcceptedEvent → Received → Turn
-turn_of (Opened c k) r = On
-turn_of (Piece c o) r = turn_after r
-turn_of (Ended c) r = turn_after r
-turn_of (Datagram o) r = turn_after r
+-- how it goes on after a piece: it ends where a frame of it waits, as memory was wanted for its record
+abbrev pub turn_after : Received → ℕ → Turn
+turn_after received.Accepted waits = On
+turn_after (received.Unterminated start) waits = On
+turn_after received.Refused waits = On
+turn_after received.Memory 0 = On
+turn_after received.Memory (suc waits) = End Memory
 
--- a collector makes this of an event that comes after others, and so it goes on
-abbrev pub Receives : Manner → List AcceptedEvent → AcceptedEvent → List AcceptedEvent → Turn → Type 0
-Receives way before e own turn = (r : Received) × (os : List Outcome) × IsReceivedAs way before e r os own
-    × (turn ≡ turn_of e r)
+-- and after any other event with the next step
+abbrev pub turn_of : AcceptedEvent → Received → ℕ → Turn
+turn_of (Opened c k) r waits = On
+turn_of (Piece c o) r waits = turn_after r waits
+turn_of (Ended c) r waits = On
+turn_of (Datagram o) r waits = On
+
+-- a collector makes this of an event that comes after others
+abbrev pub Receives : Manner → List AcceptedEvent → AcceptedEvent → List AcceptedEvent → Type 0
+Receives way before e own = (r : Received) × (os : List Outcome) × IsReceivedAs way before e r os own
 
 -- the last of outcomes is a bad count
 abbrev pub bad_last : Option Outcome → Bool
@@ -96,28 +115,28 @@ loses_opening (received.Unterminated start) = true
 loses_opening received.Refused = true
 loses_opening received.Memory = true
 
--- or its piece was refused, or ends in a bad count
-abbrev pub loses_piece : Received → List Outcome → Bool
-loses_piece received.Accepted os = ends_in_bad_count os
-loses_piece (received.Unterminated start) os = ends_in_bad_count os
-loses_piece received.Refused os = true
-loses_piece received.Memory os = false
+-- or its piece was refused, or ends in a bad count; or memory was wanted for it, and no frame of it waits
+abbrev pub loses_piece : Received → List Outcome → ℕ → Bool
+loses_piece received.Accepted os waits = ends_in_bad_count os
+loses_piece (received.Unterminated start) os waits = ends_in_bad_count os
+loses_piece received.Refused os waits = true
+loses_piece received.Memory os waits = waits == 0
 
 -- an event loses its connection
-abbrev pub loses : AcceptedEvent → Received → List Outcome → Bool
-loses (Opened c k) r os = loses_opening r
-loses (Piece c o) r os = loses_piece r os
-loses (Ended c) r os = false
-loses (Datagram o) r os = false
+abbrev pub loses : AcceptedEvent → Received → List Outcome → ℕ → Bool
+loses (Opened c k) r os waits = loses_opening r
+loses (Piece c o) r os waits = loses_piece r os waits
+loses (Ended c) r os waits = false
+loses (Datagram o) r os waits = false
 
--- behind a piece whose connection is lost, that one ends; behind any other event nothing comes
-abbrev pub EndsLost : Bool → Manner → List AcceptedEvent → AcceptedEvent → Received → List AcceptedEvent → Turn
+-- behind a piece whose connection is lost, that one ends, and it goes on; behind any other event nothing comes
+abbrev pub EndsLost : Bool → Manner → List AcceptedEvent → AcceptedEvent → Received → ℕ → List AcceptedEvent → Turn
     → Type 0
-EndsLost false way events e r closing turn = (closing ≡ []) × (turn ≡ turn_of e r)
-EndsLost true way events (Opened c k) r closing turn = (closing ≡ []) × (turn ≡ turn_of (Opened c k) r)
-EndsLost true way events (Piece c o) r closing turn = Receives way events (Ended c) closing turn
-EndsLost true way events (Ended c) r closing turn = ⊥
-EndsLost true way events (Datagram o) r closing turn = ⊥
+EndsLost false way events e r waits closing turn = (closing ≡ []) × (turn ≡ turn_of e r waits)
+EndsLost true way events (Opened c k) r waits closing turn = (closing ≡ []) × (turn ≡ On)
+EndsLost true way events (Piece c o) r waits closing turn = Receives way events (Ended c) closing × (turn ≡ On)
+EndsLost true way events (Ended c) r waits closing turn = ⊥
+EndsLost true way events (Datagram o) r waits closing turn = ⊥
 
 -- of an event that comes after others this is accepted: what a collector makes of it, and the end of a connection that
 -- is lost
@@ -129,5 +148,5 @@ pub record IsAccepted (way : Manner) (before : List AcceptedEvent) (e : Accepted
   pub closing : List AcceptedEvent
   pub is : IsReceivedAs way before e received outcomes own
   pub all : here ≡ own ++ closing
-  pub lost_as : lost ≡ loses e received outcomes
-  pub ends : EndsLost lost way (before ++ own) e received closing turn
+  pub lost_as : lost ≡ loses e received outcomes (waits_in e is.1)
+  pub ends : EndsLost lost way (before ++ own) e received (waits_in e is.1) closing turn

@@ -96,13 +96,14 @@ abbrev pub KeepsPiece : Option Stream → List ℕ → List Outcome → OutputSt
 KeepsPiece stream octets outcomes old new = (between : OutputState × ServeCounts)
     × HearsPiece KeepsNext stream octets 0 0 [] outcomes old between × KeepsNoFrame between new
 
--- of what was accepted of a piece, the frames were whose outcomes it has; where all of it was, these are its frames;
--- where it was passed over, none was
+-- of what was accepted of a piece, the frames were whose outcomes it has, and then no other; where all of it was, these
+-- are its frames; where it was passed over, none was
 pub record KeepsFrames {way : Manner} {before : List AcceptedEvent} {c : ℕ} {octets : List ℕ}
     {here : List AcceptedEvent} {lost : Bool} {turn : Turn}
     (taken : IsAccepted way before (Piece c octets) here lost turn) (old new : OutputState × ServeCounts) : Type 0 where
-  pub told : HearsReceived KeepsNext (stream_of c (history_of before).streams) octets (taken.is.0 c) (taken.is.1 c)
-      taken.outcomes old new
+  pub told : (between : OutputState × ServeCounts)
+      × HearsReceived KeepsNext (stream_of c (history_of before).streams) octets (taken.is.0 c) (taken.is.1 c)
+      taken.outcomes old between × KeepsSilent false between new
   pub whole : taken.own ≡ Piece c octets ∷ [] → IfNotMemory taken.received (KeepsPiece
       (stream_of c (history_of before).streams) octets taken.outcomes old new)
   pub passed : taken.own ≡ [] → taken.received ≡ received.Accepted → KeepsNoFrame old new
@@ -114,4 +115,5 @@ abbrev pub KeepsEvent : {way : Manner} {before here : List AcceptedEvent} {lost 
 KeepsEvent (Opened c k) taken old new = KeepsNone old new × CountsOpening taken.received old.1 new.1
 KeepsEvent (Piece c octets) taken old new = KeepsFrames taken (come octets old) new
 KeepsEvent (Ended c) taken old new = KeepsNone old new × CountsEnd taken.received old.1 new.1
-KeepsEvent (Datagram octets) taken old new = KeepsEach octets taken.outcomes (come octets old) new
+KeepsEvent (Datagram octets) taken old new = (between : OutputState × ServeCounts)
+    × KeepsEach octets taken.outcomes (come octets old) between × KeepsSilent false between new

@@ -1,9 +1,9 @@
 -- What a server does in a turn, and in a run.
 use Rattle.std.specs.Prelude.{◌≡◌, ◌⊎◌, ◌-◌, ◌<◌, ◌^◌, Bool, true, false, List, [], ◌∷◌, ◌++◌, length}
-use Rattle.std.specs.Prelude.{Option, IfNone, is_none}
+use Rattle.std.specs.Prelude.{Option, IfNone, is_none, if◌then◌else◌}
 use Rattle.archive_text.specs.Entries.{Entry}
 use Rattle.octet_devices.specs.Device.{OutputState}
-use Rattle.syslog_collect.specs.Collectors.{NoneWaits, reading_of}
+use Rattle.syslog_collect.specs.Collectors.{NoneWaits, reading_of, store_of}
 use Rattle.syslog_collect.specs.History.{AcceptedEvent}
 use Rattle.socket_source.specs.Steps.{Given, SourceState}
 use Rattle.serve_engine.specs.Events.{Manner, manner_of}
@@ -38,22 +38,32 @@ is_full server = server.full
 
 -- ---- places
 
--- what is round an intake: its source, whether the disk was full at the last try, and the output for refused frames with
--- the counts
+-- what is round an intake: its source, whether the disk was full at the last try, whether memory is short, and the output
+-- for refused frames with the counts
 pub record Around : Type 0 where
   pub source : SourceState
   pub full : Bool
+  pub short : Bool
   pub refusals : OutputState × ServeCounts
+
+-- nothing is read in the next turn
+abbrev pub rests : Around → Bool
+rests a = if a.full then true else a.short
 
 -- where a server is
 pub record Place (S K : Type 0) : Type 0 where
   pub intake : Intake S K
   pub around : Around
 
-abbrev pub place_of : {S K N R : Type 0} → (R → OutputState) → Server S K N R → SourceState → Place S K
-place_of state server source = record {
+abbrev pub place_of : {S K N R : Type 0} → (R → OutputState) → (S → Bool) → Server S K N R → SourceState → Place S K
+place_of state short server source = record {
   intake = server.intake;
-  around = record { source = source; full = server.full; refusals = kept_in state server.report };
+  around = record {
+    source = source;
+    full = server.full;
+    short = short (store_of server.intake.collector);
+    refusals = kept_in state server.report;
+  };
 }
 
 -- ---- turns
@@ -68,10 +78,10 @@ pub record Made : Type 0 where
   pub around : Around
   pub turn : Turn
 
--- The step of a turn, and whether the connection of that is lost. There is one, unless the disk was full, and the source
--- gave it. Where it has no event, no refused frame is kept, and nothing that came is counted.
+-- The step of a turn, and whether the connection of that is lost. There is one, unless the disk was full or memory was
+-- short, and the source gave it. Where it has no event, no refused frame is kept, and nothing that came is counted.
 pub record IsGiven (a b : Around) (step : Option Given) (lost : Bool) : Type 0 where
-  pub asked : is_none step ≡ a.full
+  pub asked : is_none step ≡ rests a
   pub gave : Gave a.source b.source step lost
   pub silent : IfNone (event_in step) (KeepsSilent (is_due step) a.refusals b.refusals)
 

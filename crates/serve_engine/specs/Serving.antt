@@ -102,7 +102,7 @@ abbrev pub IfSettled : Turn → Type 0 → Type 0
 IfSettled On P = P
 IfSettled (End end) P = UnlessMemory end P
 
--- an event ends a run only where memory ran out
+-- a piece ends a run only where memory ran out
 abbrev pub IsEventTurn : Turn → Type 0
 IsEventTurn turn = (turn ≡ On) ⊎ (turn ≡ End Memory)
 
@@ -115,7 +115,8 @@ UnlessStopped (End Disk) full P = Unit {0}
 UnlessStopped (End Memory) full P = Unit {0}
 UnlessStopped (End Endless) full P = Unit {0}
 
--- a commit is due in a turn: its step asks for one; or it has none, as the disk was full, and is tried again
+-- a commit is due in a turn: its step asks for one; or it has none, as the disk was full, and is tried again, or memory is
+-- short
 abbrev pub is_due : Option Given → Bool
 is_due None = true
 is_due (Some g) = asks_commit g.step
@@ -145,29 +146,28 @@ abbrev pub is_over : Option Given → Bool
 is_over None = false
 is_over (Some g) = is_last g.step
 
--- it says what an open connection or a datagram had
-abbrev pub is_of_stream : ServerStep → Bool
-is_of_stream (step.Opened conn listener framing peer) = false
-is_of_stream (step.Piece conn len) = true
-is_of_stream (step.Ended conn end) = true
-is_of_stream (step.Datagram listener peer len) = true
-is_of_stream (step.TurnedAway listener framing peer) = false
-is_of_stream step.Tick = false
-is_of_stream step.InputEnded = false
-is_of_stream step.Finished = false
-is_of_stream (step.Failed fault) = false
+-- it says that octets came on a connection
+abbrev pub is_piece : ServerStep → Bool
+is_piece (step.Opened conn listener framing peer) = false
+is_piece (step.Piece conn len) = true
+is_piece (step.Ended conn end) = false
+is_piece (step.Datagram listener peer len) = false
+is_piece (step.TurnedAway listener framing peer) = false
+is_piece step.Tick = false
+is_piece step.InputEnded = false
+is_piece step.Finished = false
+is_piece (step.Failed fault) = false
 
--- why a step ends a run: it says so; or the disk failed at a commit; or memory ran out for what a connection or a
--- datagram had
+-- why a step ends a run: it says so; or the disk failed at a commit; or memory ran out for a record of a piece
 abbrev pub IsStepTurn : ServerStep → Turn → Type 0
 IsStepTurn s On = Unit {0}
 IsStepTurn s (End Finished) = s ≡ step.Finished
 IsStepTurn s (End (Source fault)) = s ≡ step.Failed fault
 IsStepTurn s (End Disk) = asks_commit s ≡ true
-IsStepTurn s (End Memory) = is_of_stream s ≡ true
+IsStepTurn s (End Memory) = is_piece s ≡ true
 IsStepTurn s (End Endless) = ⊥
 
--- the same where the disk was full and was tried again
+-- the same where it had none
 abbrev pub IsTryTurn : Turn → Type 0
 IsTryTurn On = Unit {0}
 IsTryTurn (End Finished) = ⊥

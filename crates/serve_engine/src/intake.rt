@@ -3,10 +3,10 @@ ghost use Rattle.std.specs.Prelude.{◌≡◌, ◌++◌, ⊤, [], List, IfOk, On
 ghost use Rattle.archive_text.specs.Entries.{Entry};
 ghost use Rattle.collect_engine.specs.Receiving.{HearsReceived, IfNotMemory, IfRefused, MayNotOpen, ReceivesAs};
 ghost use Rattle.syslog_collect.specs.Collectors.{NoneWaits, limit_of, reading_of, store_of, waits_of};
-ghost use Rattle.syslog_collect.specs.History.{AcceptedEvent, Opened, Piece, history_of, stream_of};
+ghost use Rattle.syslog_collect.specs.History.{AcceptedEvent, Ended, Opened, Piece, history_of, stream_of};
 ghost use Rattle.syslog_collect.specs.Runs.{accepted_event};
 ghost use Rattle.serve_engine.specs.Counts.{no_taken};
-ghost use Rattle.serve_engine.specs.Events.{manner_of, opening_of};
+ghost use Rattle.serve_engine.specs.Events.{ending_of, manner_of, opening_of};
 ghost use Rattle.serve_engine.specs.Intakes.{AddsTaken, IsCommitted, StandsBy};
 ghost use Rattle.serve_engine.specs.Keepings.{Kept};
 ghost use Rattle.serve_engine.specs.Serving.{StandsOn};
@@ -25,6 +25,17 @@ fn opening_of(answer: Result<(), CollectFault>) -> Received
     match answer {
         Ok(()) => Received::Accepted,
         Err(CollectFault::Memory { .. }) => Received::Memory,
+        Err(_) => Received::Refused,
+    }
+}
+
+// What became of an end, for which no memory is wanted.
+fn ending_of(answer: Result<(), CollectFault>) -> Received
+    ensures { result ≡ ending_of answer }
+{
+    match answer {
+        Ok(()) => Received::Accepted,
+        Err(CollectFault::Unterminated { start }) => Received::Unterminated { start },
         Err(_) => Received::Refused,
     }
 }
@@ -71,6 +82,23 @@ impl<S: Store + Drop, K: Keeping<S> + Drop> Intake<S, K> {
     {
         let answer = self.collector.open_conn(alloc, conn, framing);
         opening_of(answer)
+    }
+
+    /// Ends a connection in the collector.
+    pub(crate) fn end(&mut self, conn: u32) -> Received
+        ensures received { (k : Kept) (first : List Entry) (before : List AcceptedEvent)
+            → StandsBy S.entries K.stands self.old k first before
+            → (accepted : List AcceptedEvent)
+            × StandsBy S.entries K.stands self.new k first (before ++ accepted)
+            × ReceivesAs (reading_of self.old.collector) (history_of before) (waits_of self.old.collector)
+            (waits_of self.new.collector) (Ended conn) result [] accepted }
+        ensures settled { (k : Kept) (first : List Entry) (before : List AcceptedEvent)
+            → StandsBy S.entries K.stands self.old k first before
+            → NoneWaits self.old.collector → NoneWaits self.new.collector }
+        ensures manner { manner_of self.new.collector ≡ manner_of self.old.collector }
+    {
+        let answer = self.collector.end_conn(conn);
+        ending_of(answer)
     }
 
     /// Gives an event to the collector.
@@ -130,6 +158,13 @@ impl<S: Store + Drop, K: Keeping<S> + Drop> Intake<S, K> {
             &mut self.outcomes,
             observer,
         )
+    }
+
+    /// Whether memory is short, so that what came is to be committed before more is read.
+    pub(crate) fn is_short(&self) -> bool
+        ensures { result ≡ K.short (store_of self.now.collector) }
+    {
+        self.keeper.is_short(self.collector.store())
     }
 
     /// Hands over what came since the last call.

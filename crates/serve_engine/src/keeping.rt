@@ -1,5 +1,5 @@
 //! What keeps records through crashes, as a server sees it.
-ghost use Rattle.std.specs.Prelude.{◌≡◌, [], OnErr, OnOk};
+ghost use Rattle.std.specs.Prelude.{◌≡◌, [], Bool, OnErr, OnOk};
 ghost use Rattle.serve_engine.specs.Counts.{no_taken, taken_both};
 ghost use Rattle.serve_engine.specs.Keepings.{HandsOver, Kept, all_committed};
 
@@ -55,8 +55,16 @@ pub trait Keeping<S: Store> {
     // it stands with what it holds, and with what of that every crash leaves
     ghost stands: { Self → Kept → Type 0 };
 
-    /// Takes what a set holds, and leaves it empty. After an error, what was not taken is still in
-    /// the set, so that the next call goes on.
+    // memory is short for what comes into a set
+    ghost short: { S → Bool };
+
+    /// Whether memory is short, so that what a set holds is to be taken before more comes into it.
+    fn is_short(&self, fresh: &S) -> bool
+        ensures { result ≡ short fresh.now };
+
+    /// Takes what a set holds, and leaves it empty. Where memory is short, it moves what it holds to
+    /// other files first. After an error, what was not taken is still in the set, so that the next call
+    /// goes on.
     fn take(&mut self, alloc: Global, fresh: &mut S) -> Result<Taken, KeepFault>
         ensures hands { (k : Kept) → stands self.old k → (j : Kept) × stands self.new j
             × HandsOver k j (S.entries fresh.old) (S.entries fresh.new) }

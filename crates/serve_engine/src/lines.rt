@@ -11,7 +11,7 @@ use std::net::SocketAddr;
 use syslog_collect::Outcome;
 use syslog_frame::Framing;
 
-/// What happened to a connection, other than to one of its frames.
+/// What happened to a connection, other than to one of its frames, or to a datagram.
 #[derive(Clone, Copy, Debug, PartialEq, Eq)]
 pub(crate) enum Happening {
     /// It ended inside the frame that begins at this position.
@@ -24,8 +24,10 @@ pub(crate) enum Happening {
     Idle,
     /// There was no room for it.
     TurnedAway,
-    /// There was no memory for it.
+    /// There was no memory for it, or for what came on it.
     NoMemory,
+    /// It was a datagram, for whose record there was no memory.
+    Dropped,
 }
 
 fn put(out: &mut Vec<u8>, text: &[u8]) -> Result<(), AllocError> {
@@ -119,6 +121,7 @@ pub(crate) fn put_happening(
         Happening::Idle => put_peer(alloc, out, way, b" idle\n"),
         Happening::TurnedAway => put_peer(alloc, out, way, b" closed: too many connections\n"),
         Happening::NoMemory => put_peer(alloc, out, way, b" closed: want of memory\n"),
+        Happening::Dropped => put_peer(alloc, out, way, b" dropped: want of memory\n"),
     }
 }
 

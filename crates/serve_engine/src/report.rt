@@ -260,6 +260,15 @@ impl<N: Output + Drop, R: Output + Drop> Report<N, R> {
         }
     }
 
+    /// Tells that a datagram was dropped for want of memory, if it was.
+    pub(crate) fn tell_dropped(&mut self, alloc: Global, way: Way, received: Received)
+        ensures { KeepsSilent false (kept_in R.state self.old) (kept_in R.state self.new) }
+    {
+        if received == Received::Memory {
+            self.tell(alloc, way, Happening::Dropped);
+        }
+    }
+
     /// Counts octets of a piece, of whose frames it is told next.
     pub(crate) fn begin_piece(&mut self, way: Way, octets: usize)
         ensures refused { self.new.refused ≡ self.old.refused }

@@ -76,7 +76,8 @@ impl<S: Store + Drop, K: Keeping<S> + Drop, N: Output + Drop, R: Output + Drop> 
     }
 
     /// A turn: a step of the source; or if the disk is full, another try after a while in which
-    /// nothing is read. The slice should have room for `PIECE_MAX` octets.
+    /// nothing is read; or if memory is short, a commit before more is read. The slice should have room
+    /// for `PIECE_MAX` octets.
     ///
     /// What came is committed at each tick, and once the source has finished or failed, unless the
     /// disk is full or fails, or memory runs out. What is refused of the step is kept, frame by
@@ -89,14 +90,18 @@ impl<S: Store + Drop, K: Keeping<S> + Drop, N: Output + Drop, R: Output + Drop> 
         buf: &mut [u8],
         options: &ServeOptions,
     ) -> Turn
-        ensures served { ServesTurn S.entries K.stands result (place_of R.state self.old (Q.state source.old))
-            (place_of R.state self.new (Q.state source.new)) }
+        ensures served { ServesTurn S.entries K.stands result
+            (place_of R.state K.short self.old (Q.state source.old))
+            (place_of R.state K.short self.new (Q.state source.new)) }
         ensures manner { manner_of (intake_of self.new).collector
             ≡ manner_of (intake_of self.old).collector }
     {
         if self.full {
             pause.pause();
             return self.try_again(alloc);
+        }
+        if self.intake.is_short() {
+            return self.commit(alloc);
         }
         let step = source.next(buf);
         self.step(alloc, source, pause, step, buf, options)
@@ -110,8 +115,9 @@ impl<S: Store + Drop, K: Keeping<S> + Drop, N: Output + Drop, R: Output + Drop> 
         pause: &mut P,
         options: &ServeOptions,
     ) -> ServeEnd
-        ensures served { ServesRun S.entries K.stands result (place_of R.state self.old (Q.state source.old))
-            (place_of R.state self.new (Q.state source.new)) }
+        ensures served { ServesRun S.entries K.stands result
+            (place_of R.state K.short self.old (Q.state source.old))
+            (place_of R.state K.short self.new (Q.state source.new)) }
         ensures manner { manner_of (intake_of self.new).collector
             ≡ manner_of (intake_of self.old).collector }
     {

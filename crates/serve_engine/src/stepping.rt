@@ -4,12 +4,12 @@ ghost use Rattle.archive_text.specs.Entries.{Entry};
 ghost use Rattle.socket_source.specs.Steps.{Closes};
 ghost use Rattle.syslog_collect.specs.Collectors.{NoneWaits};
 ghost use Rattle.syslog_collect.specs.History.{AcceptedEvent, Datagram, Ended, Opened, Piece};
-ghost use Rattle.serve_engine.specs.Events.{Receives, bad_last, ends_in_bad_count, manner_of, turn_after};
+ghost use Rattle.serve_engine.specs.Events.{Receives, bad_last, ends_in_bad_count, manner_of};
 ghost use Rattle.serve_engine.specs.Intakes.{StandsBy};
 ghost use Rattle.serve_engine.specs.Keepings.{Kept};
 ghost use Rattle.serve_engine.specs.Paces.{PaysFor};
 ghost use Rattle.serve_engine.specs.Refusals.{KeepsSilent, kept_in};
-ghost use Rattle.serve_engine.specs.Serving.{Accepts, ClosesLost, CommitsAll, EndsUnlessFull, FaultsAs, IfSettled};
+ghost use Rattle.serve_engine.specs.Serving.{Accepts, ClosesLost, CommitsAll, EndsUnlessFull, FaultsAs};
 ghost use Rattle.serve_engine.specs.Serving.{IsCommitTurn, IsEventTurn, IsToldFull, TellsFull, UnlessStopped};
 ghost use Rattle.serve_engine.specs.declared.serve_end.ServeEnd.TheVariants.{Disk, Memory};
 ghost use Rattle.serve_engine.specs.declared.turn.Turn.TheVariants.{End, On};
@@ -52,16 +52,6 @@ fn way_of(peer: Option<SocketAddr>) -> Way {
     match peer {
         Some(peer) => Way::Udp(peer),
         None => Way::Unix,
-    }
-}
-
-// How it goes on after an event that is no opening.
-fn turn_after(received: Received) -> Turn
-    ensures { result ≡ turn_after received }
-{
-    match received {
-        Received::Memory => Turn::End(ServeEnd::Memory),
-        Received::Accepted | Received::Refused | Received::Unterminated { .. } => Turn::On,
     }
 }
 
@@ -108,26 +98,27 @@ impl<S: Store + Drop, K: Keeping<S> + Drop, N: Output + Drop, R: Output + Drop> 
     }
 
     // Ends a connection that can go on no more.
-    fn lose<Q: ServerSource>(&mut self, alloc: Global, source: &mut Q, lost: u32) -> Turn
+    fn lose<Q: ServerSource>(&mut self, source: &mut Q, lost: u32) -> Turn
         ensures served { (k : Kept) (first : List Entry) (before : List AcceptedEvent)
             → StandsBy S.entries K.stands self.old.intake k first before
             → NoneWaits self.old.intake.collector → (here : List AcceptedEvent)
             × StandsBy S.entries K.stands self.new.intake k first (before ++ here)
-            × Receives (manner_of self.old.intake.collector) before (Ended lost) here result
-            × IfSettled result (NoneWaits self.new.intake.collector) }
+            × Receives (manner_of self.old.intake.collector) before (Ended lost) here
+            × NoneWaits self.new.intake.collector }
         ensures manner { manner_of self.new.intake.collector ≡ manner_of self.old.intake.collector }
         ensures full { self.new.full ≡ self.old.full }
-        ensures turn { IsEventTurn result }
+        ensures turn { result ≡ On }
         ensures closes { Closes (Q.state source.old) (Q.state source.new) lost }
         ensures report { self.new.report ≡ self.old.report }
     {
         source.close(lost);
         self.peers.set(lost, None);
-        let received = self.intake.receive(alloc, Event::Ended { conn: lost });
-        turn_after(received)
+        let _ = self.intake.end(lost);
+        Turn::On
     }
 
-    // Octets came on a connection.
+    // Octets came on a connection. If memory is wanted for them, it is closed; but if it is wanted for
+    // the record of a frame that they complete, which cannot be dropped, the run ends.
     pub(crate) fn piece<Q: ServerSource>(
         &mut self,
         alloc: Global,
@@ -148,11 +139,17 @@ impl<S: Store + Drop, K: Keeping<S> + Drop, N: Output + Drop, R: Output + Drop> 
             .intake
             .receive_piece(alloc, conn, octets, &mut self.report);
         match received {
-            Received::Memory => Turn::End(ServeEnd::Memory),
-            Received::Refused => self.lose(alloc, source, conn),
+            Received::Memory => {
+                if self.intake.collector.frame_waits(conn) {
+                    return Turn::End(ServeEnd::Memory);
+                }
+                self.report.tell(alloc, way, Happening::NoMemory);
+                self.lose(source, conn)
+            }
+            Received::Refused => self.lose(source, conn),
             Received::Accepted | Received::Unterminated { .. } => {
                 if ends_in_bad_count(self.intake.outcomes.as_slice()) {
-                    return self.lose(alloc, source, conn);
+                    return self.lose(source, conn);
                 }
                 Turn::On
             }
@@ -165,16 +162,16 @@ impl<S: Store + Drop, K: Keeping<S> + Drop, N: Output + Drop, R: Output + Drop> 
             (kept_in R.state self.old.report) (kept_in R.state self.new.report) }
         ensures manner { manner_of self.new.intake.collector ≡ manner_of self.old.intake.collector }
         ensures full { self.new.full ≡ self.old.full }
-        ensures turn { IsEventTurn result }
+        ensures turn { result ≡ On }
     {
         let way = self.peers.get(conn);
         self.peers.set(conn, None);
-        let received = self.intake.receive(alloc, Event::Ended { conn });
+        let received = self.intake.end(conn);
         self.report.ended(alloc, way, received, end);
-        turn_after(received)
+        Turn::On
     }
 
-    // A datagram came.
+    // A datagram came. If memory is wanted for its record, it is dropped.
     pub(crate) fn datagram(
         &mut self,
         alloc: Global,
@@ -185,14 +182,15 @@ impl<S: Store + Drop, K: Keeping<S> + Drop, N: Output + Drop, R: Output + Drop> 
             (kept_in R.state self.old.report) (kept_in R.state self.new.report) }
         ensures manner { manner_of self.new.intake.collector ≡ manner_of self.old.intake.collector }
         ensures full { self.new.full ≡ self.old.full }
-        ensures turn { IsEventTurn result }
+        ensures turn { result ≡ On }
     {
         let way = way_of(peer);
         let received = self.intake.receive(alloc, Event::Datagram { octets });
         self.report.count_octets(octets.len());
         self.report
             .outcomes(alloc, way, self.intake.outcomes.as_slice(), octets);
-        turn_after(received)
+        self.report.tell_dropped(alloc, way, received);
+        Turn::On
     }
 
     // A connection came that there was no room for.
@@ -239,7 +237,7 @@ impl<S: Store + Drop, K: Keeping<S> + Drop, N: Output + Drop, R: Output + Drop> 
     }
 
     // Commits all that came.
-    fn commit(&mut self, alloc: Global) -> Turn
+    pub(crate) fn commit(&mut self, alloc: Global) -> Turn
         ensures served { CommitsAll S.entries K.stands self.old.intake self.new.intake self.new.full result }
         ensures settled { NoneWaits self.old.intake.collector → NoneWaits self.new.intake.collector }
         ensures manner { manner_of self.new.intake.collector ≡ manner_of self.old.intake.collector }

@@ -3,8 +3,6 @@ use Rattle.std.proofs.Common.{◌≡◌, List, [], ◌∷◌, ◌++◌, inl, inr
 use Rattle.std.specs.Prelude.{◌⊎◌}
 use Rattle.std.proofs.lemmas.List.{append-nil}
 use Rattle.disk.specs.declared.calls.Disk.{Ghosts}
-use Rattle.archive_pages.specs.Paged.{entries_in}
-use Rattle.archive_pages.specs.declared.paged.PagedArchive.{PagedArchive}
 use Rattle.archive_text.specs.Entries.{Entry, Has}
 use Rattle.archive_text.proofs.Members.{has_left}
 use Rattle.syslog_legacy.specs.declared.frame_reading.FrameReading.{FrameReading}
@@ -26,7 +24,9 @@ use Rattle.serve_engine.specs.declared.serve_end.ServeEnd.TheVariants.{Finished,
 use Rattle.store_keeper.specs.Keepers.{KeepsOn, store_of as durable_of}
 use Rattle.store_keeper.specs.Keeping.{kept_whole}
 use Rattle.store_keeper.specs.Runs.{LeavesCommitted, LeavesNoOther, LeavesReceived, RunLeaves, WasCommitted, server_disk}
+use Rattle.store_keeper.specs.Spares.{spared_entries}
 use Rattle.store_keeper.specs.declared.keeper.DiskKeeper.{DiskKeeper}
+use Rattle.store_keeper.specs.declared.spared.SparedSet.{SparedSet}
 use Rattle.store_keeper.proofs.Kept.{kept_keeps}
 use Rattle.store_keeper.proofs.Received.{nothing_else}
 
@@ -61,16 +61,16 @@ stands_new way cs es kept none empty s =
     subst (λ (first : List Entry). Stands way cs (es ++ kept) first [])
     (subst (λ (x : List Entry). es ++ x ≡ es) (sym empty) (append-nil es)) (stands_past way cs es kept none [] s)
 
-pub begins : {D N R : Type 0} {row : Ghosts D} (server : Server PagedArchive (DiskKeeper D row) N R)
-    (collector : Collector PagedArchive) (keeper : DiskKeeper D row) (es none : List Entry)
+pub begins : {D N R : Type 0} {row : Ghosts D} (server : Server SparedSet (DiskKeeper D row) N R)
+    (collector : Collector SparedSet) (keeper : DiskKeeper D row) (es none : List Entry)
     → (intake_of server).collector ≡ collector → (intake_of server).keeper ≡ keeper → none ≡ []
-    → CollectorStands entries_in collector none [] → KeepsOn keeper (kept_whole es)
-    → StandsBy entries_in KeepsOn (intake_of server) (kept_whole es) es []
+    → CollectorStands spared_entries collector none [] → KeepsOn keeper (kept_whole es)
+    → StandsBy spared_entries KeepsOn (intake_of server) (kept_whole es) es []
 begins {D = D} {row = row} server collector keeper es none one other empty s on = record {
   keeper = subst (λ (x : DiskKeeper D row). KeepsOn x (kept_whole es)) (sym other) on;
   within = λ x h. h;
-  collector = subst (λ (x : Collector PagedArchive). CollectorStands (behind es entries_in) x es []) (sym one)
-      (stands_new collector.reading collector.connections es (entries_in collector.store) none empty s);
+  collector = subst (λ (x : Collector SparedSet). CollectorStands (behind es spared_entries) x es []) (sym one)
+      (stands_new collector.reading collector.connections es (spared_entries collector.store) none empty s);
 }
 
 -- ---- an end
@@ -83,22 +83,22 @@ if_committed Memory P Q h f = tt
 if_committed Endless P Q h f = tt
 
 -- nothing is in the folder but what was there first and was received
-only : {D : Type 0} {row : Ghosts D} (new : Place PagedArchive (DiskKeeper D row)) (way : FrameReading) (k : Kept)
+only : {D : Type 0} {row : Ghosts D} (new : Place SparedSet (DiskKeeper D row)) (way : FrameReading) (k : Kept)
     (first : List Entry) (events : List AcceptedEvent) → reading_of new.intake.collector ≡ way
-    → StandsBy entries_in KeepsOn new.intake k first events → row.tells (server_disk new)
+    → StandsBy spared_entries KeepsOn new.intake k first events → row.tells (server_disk new)
     → LeavesNoOther (row.state (server_disk new)) way first events
 only {row = row} new way k first events same at tells files may e h =
     let collector = new.intake.collector in
-    let fresh = entries_in (store_of collector) in
+    let fresh = spared_entries (store_of collector) in
     let keeps = kept_keeps (durable_of new.intake.keeper) (row.state (server_disk new)) k (at.keeper tells) in
     subst (λ (w : FrameReading). Has first e ⊎ IsReceived w events e) same
     (nothing_else collector.reading collector.connections (k.held ++ fresh) first events at.collector e
     (has_left k.held fresh e (keeps.nothing_forged files may e h)))
 
 -- all of that is there
-whole : {D : Type 0} {row : Ghosts D} (new : Place PagedArchive (DiskKeeper D row)) (way : FrameReading) (k : Kept)
+whole : {D : Type 0} {row : Ghosts D} (new : Place SparedSet (DiskKeeper D row)) (way : FrameReading) (k : Kept)
     (first : List Entry) (events : List AcceptedEvent) → HoldsReceived way k.committed first events
-    → reading_of new.intake.collector ≡ way → StandsBy entries_in KeepsOn new.intake k first events
+    → reading_of new.intake.collector ≡ way → StandsBy spared_entries KeepsOn new.intake k first events
     → row.tells (server_disk new) → LeavesReceived (row.state (server_disk new)) way first events
 whole {row = row} new way k first events committed same at tells files may e =
     let keeps = kept_keeps (durable_of new.intake.keeper) (row.state (server_disk new)) k (at.keeper tells) in (
@@ -119,18 +119,18 @@ still way first k before a (m ∷ ms) (turns, is) x (inr (inr had)) =
     is.stays x (still way first k before a ms turns x (inr had))
 
 -- so that a crash leaves it
-left : {D : Type 0} {row : Ghosts D} (new : Place PagedArchive (DiskKeeper D row)) (way : Manner) (k : Kept)
+left : {D : Type 0} {row : Ghosts D} (new : Place SparedSet (DiskKeeper D row)) (way : Manner) (k : Kept)
     (first : List Entry) (before events : List AcceptedEvent) (a : Around) (made : List Made)
-    → AreTurns way first k before a made → StandsBy entries_in KeepsOn new.intake (kept_after k made) first events
+    → AreTurns way first k before a made → StandsBy spared_entries KeepsOn new.intake (kept_after k made) first events
     → row.tells (server_disk new) → LeavesCommitted (row.state (server_disk new)) k made
 left {row = row} new way k first before events a made turns at tells files may e had =
     (kept_keeps (durable_of new.intake.keeper) (row.state (server_disk new)) (kept_after k made)
     (at.keeper tells)).nothing_lost files may e (still way first k before a made turns e had)
 
-pub run_leaves : {D : Type 0} {row : Ghosts D} (end : ServeEnd) (old new : Place PagedArchive (DiskKeeper D row))
+pub run_leaves : {D : Type 0} {row : Ghosts D} (end : ServeEnd) (old new : Place SparedSet (DiskKeeper D row))
     (k : Kept) (first : List Entry) (before : List AcceptedEvent)
     → reading_of new.intake.collector ≡ reading_of old.intake.collector
-    → DoneRun entries_in KeepsOn end old new k first before → RunLeaves end old new k first before
+    → DoneRun spared_entries KeepsOn end old new k first before → RunLeaves end old new k first before
 run_leaves {row = row} end old new k first before same run =
     let way = reading_of old.intake.collector in
     let events = before ++ events_of run.made in

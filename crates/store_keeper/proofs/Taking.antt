@@ -14,11 +14,12 @@ use Rattle.archive_text.specs.declared.store.Added.{Added}
 use Rattle.archive_text.specs.declared.store.Added.TheVariants.{New, Held}
 use Rattle.archive_text.proofs.Members.{has_either, has_left, has_new, has_right, of_member}
 use Rattle.archive_text.proofs.Texts.{one_entry_of}
-use Rattle.record_store.specs.Stores.{Sets, with_waiting}
+use Rattle.record_store.specs.Stores.{AreAmong, Sets, with_waiting}
 use Rattle.durable_store.specs.Durables.{AddsTo, Stands, entries_of}
 use Rattle.durable_store.specs.declared.store.DurableStore.{DurableStore}
 use Rattle.serve_engine.specs.Keepings.{HandsOver, Kept}
 use Rattle.store_keeper.specs.Keeping.{IsKept, StaysAs, Takes, TakesSome, with_held}
+use Rattle.store_keeper.proofs.Kept.{kept_alike}
 
 -- ---- one entry
 
@@ -190,3 +191,38 @@ handed_some k some old among = record {
   still = λ x h. has_left k.held some x h;
   committed = refl;
 }
+
+-- ---- taken twice
+
+-- some of them, and then all
+pub again : (store : DurableStore) (state : State) (k : Kept) (some all : List Entry) → AreAmong some all
+    → IsKept store state (with_held (with_held k some) all) → IsKept store state (with_held k all)
+again store state k some all among kept = kept_alike store state (with_held (with_held k some) all) (k.held ++ all)
+    (λ x. (
+      λ h. ⊎_elim
+          (λ front. ⊎_elim
+          (λ before. has_left k.held all x before)
+          (λ one. has_right k.held all x (among x one))
+          (has_either k.held some x front))
+          (λ more. has_right k.held all x more)
+          (has_either (k.held ++ some) all x h),
+      λ h. ⊎_elim
+          (λ before. has_left (k.held ++ some) all x (has_left k.held some x before))
+          (λ more. has_right (k.held ++ some) all x more)
+          (has_either k.held all x h),
+    )) kept
+
+-- some of them, and then some
+pub both : (k : Kept) (store : DurableStore) (state : State) (some more all : List Entry) → AreAmong some all
+    → AreAmong more all → IsKept store state (with_held (with_held k some) more)
+    → AreAmong (some ++ more) all × IsKept store state (with_held k (some ++ more))
+both k store state some more all one two kept = (
+  λ x h. ⊎_elim (λ here. one x here) (λ there. two x there) (has_either some more x h),
+  subst (λ (l : List Entry). IsKept store state (record { held = l; committed = k.committed }))
+      (append_assoc k.held some more) kept,
+)
+
+-- none of them
+pub none : (k : Kept) (store : DurableStore) (state : State) → IsKept store state k
+    → IsKept store state (with_held k [])
+none k store state kept = takes_none store state k kept

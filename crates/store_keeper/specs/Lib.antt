@@ -1,4 +1,5 @@
 pub mod Keepers
 pub mod Keeping
 pub mod Runs
+pub mod Spares
 pub mod Watching

@@ -1,6 +1,7 @@
 //! A durable store and its disk.
 
 use crate::adding::add_all;
+use crate::spared::SparedSet;
 use crate::watched::{SoundDisk, WatchedDisk};
 use archive_pages::PagedArchive;
 use disk::{Disk, DiskFault};
@@ -44,15 +45,17 @@ fn fault_of_checkpoint(fault: CheckpointFault) -> KeepFault {
 }
 
 impl<D: Disk + Drop> DiskKeeper<D> {
-    ghost use Rattle.std.specs.Prelude.{◌≡◌, List, IfErr, IfOk};
+    ghost use Rattle.std.specs.Prelude.{◌≡◌, List, IfErr, IfOk, OnErr, OnOk};
+    ghost use Rattle.archive_pages.specs.Paged.{entries_in};
     ghost use Rattle.archive_text.specs.Entries.{Entry};
     ghost use Rattle.record_store.specs.Crashes.{Keeps};
-    ghost use Rattle.record_store.specs.Stores.{begun};
+    ghost use Rattle.record_store.specs.Stores.{AreAmong, begun};
     ghost use Rattle.durable_store.specs.Asides.{SetsTailsAside, asides_of};
     ghost use Rattle.durable_store.specs.Durables.{IsBroken, Stands, entries_of};
-    ghost use Rattle.serve_engine.specs.Keepings.{Kept};
+    ghost use Rattle.serve_engine.specs.Keepings.{Kept, all_committed};
     ghost use Rattle.store_keeper.specs.Keepers.{KeepsOn, disk_of, store_of};
-    ghost use Rattle.store_keeper.specs.Keeping.{kept_whole};
+    ghost use Rattle.store_keeper.specs.Keeping.{kept_whole, with_held};
+    ghost use Rattle.store_keeper.specs.Spares.{pages_of, spared_entries};
 
     /// Opens the store on a disk. The disk comes back where that fails.
     ///
@@ -93,16 +96,65 @@ impl<D: Disk + Drop> DiskKeeper<D> {
     {
         self.disk.inner()
     }
+
+    // Writes what is in memory to other files, so that its memory is free again.
+    fn write_out(&mut self, alloc: Global) -> Result<(), KeepFault>
+        ensures kept { (k : Kept) → KeepsOn self.old k → KeepsOn self.new k }
+        ensures done { OnOk result ((k : Kept) → KeepsOn self.old k → KeepsOn self.new (all_committed k)) }
+    {
+        match self.store.checkpoint(alloc, &mut self.disk) {
+            Ok(()) => Ok(()),
+            Err(fault) => Err(fault_of_checkpoint(fault)),
+        }
+    }
+
+    // Writes what is in memory out, and adds all records of a set.
+    fn add_written(&mut self, alloc: Global, fresh: &PagedArchive) -> Result<Taken, KeepFault>
+        ensures all { OnOk result ((k : Kept) → KeepsOn self.old k
+            → KeepsOn self.new (with_held k (entries_in fresh.now))) }
+        ensures some { (k : Kept) → KeepsOn self.old k → (some : List Entry)
+            × AreAmong some (entries_in fresh.now) × KeepsOn self.new (with_held k some) }
+    {
+        self.write_out(alloc)?;
+        add_all(alloc, &mut self.store, fresh)
+    }
+
+    // Adds all records of a set. Where memory is short, what is in memory is written out first.
+    fn add_set(&mut self, alloc: Global, fresh: &mut SparedSet) -> Result<Taken, KeepFault>
+        ensures same { pages_of fresh.new ≡ pages_of fresh.old }
+        ensures all { OnOk result ((k : Kept) → KeepsOn self.old k
+            → KeepsOn self.new (with_held k (spared_entries fresh.old))) }
+        ensures some { (k : Kept) → KeepsOn self.old k → (some : List Entry)
+            × AreAmong some (spared_entries fresh.old) × KeepsOn self.new (with_held k some) }
+    {
+        if fresh.is_short() {
+            return self.add_written(alloc, fresh.pages());
+        }
+        match add_all(alloc, &mut self.store, fresh.pages()) {
+            Err(KeepFault::Memory) => {
+                fresh.give_up(alloc);
+                self.add_written(alloc, fresh.pages())
+            }
+            taken => taken,
+        }
+    }
 }
 
-impl<D: Disk + Drop> Keeping<PagedArchive> for DiskKeeper<D> {
+impl<D: Disk + Drop> Keeping<SparedSet> for DiskKeeper<D> {
     ghost use Rattle.store_keeper.specs.Keepers.{KeepsOn};
+    ghost use Rattle.store_keeper.specs.Spares.{is_short};
 
     ghost stands = { λ keeper k. KeepsOn keeper k };
 
-    fn take(&mut self, alloc: Global, fresh: &mut PagedArchive) -> Result<Taken, KeepFault> {
-        let taken = add_all(alloc, &mut self.store, fresh)?;
-        *fresh = PagedArchive::new(alloc);
+    ghost short = { λ fresh. is_short fresh };
+
+    fn is_short(&self, fresh: &SparedSet) -> bool {
+        fresh.is_short()
+    }
+
+    fn take(&mut self, alloc: Global, fresh: &mut SparedSet) -> Result<Taken, KeepFault> {
+        let taken = self.add_set(alloc, fresh)?;
+        fresh.clear(alloc);
         Ok(taken)
     }
 
@@ -125,10 +177,7 @@ impl<D: Disk + Drop> Keeping<PagedArchive> for DiskKeeper<D> {
     }
 
     fn checkpoint(&mut self, alloc: Global) -> Result<(), KeepFault> {
-        match self.store.checkpoint(alloc, &mut self.disk) {
-            Ok(()) => Ok(()),
-            Err(fault) => Err(fault_of_checkpoint(fault)),
-        }
+        self.write_out(alloc)
     }
 
     fn journal_len(&self) -> u64 {

@@ -4,8 +4,10 @@
 mod adding;
 mod keeper;
 mod serving;
+mod spared;
 mod watched;
 
 pub use keeper::DiskKeeper;
 pub use serving::{serve, server_on};
+pub use spared::SparedSet;
 pub use watched::SoundDisk;

@@ -1,6 +1,5 @@
 //! A server over a store.
 ghost use Rattle.std.specs.Prelude.{◌≡◌, [], List, IfOk, max, min};
-ghost use Rattle.archive_pages.specs.Paged.{entries_in};
 ghost use Rattle.archive_text.specs.Entries.{Entry};
 ghost use Rattle.syslog_collect.specs.Collectors.{NoneWaits, limit_of, reading_of};
 ghost use Rattle.syslog_collect.specs.History.{AcceptedEvent};
@@ -11,9 +10,10 @@ ghost use Rattle.serve_engine.specs.Servers.{LeadsTo, intake_of, place_of};
 ghost use Rattle.store_keeper.specs.Keepers.{KeepsOn};
 ghost use Rattle.store_keeper.specs.Keeping.{kept_whole};
 ghost use Rattle.store_keeper.specs.Runs.{RunLeaves};
+ghost use Rattle.store_keeper.specs.Spares.{is_short, spared_entries};
 
 use crate::keeper::DiskKeeper;
-use archive_pages::PagedArchive;
+use crate::spared::SparedSet;
 use disk::Disk;
 use octet_devices::Output;
 use serve_engine::{Pause, ServeEnd, ServeOptions, Server};
@@ -32,15 +32,15 @@ pub fn server_on<D: Disk + Drop, N: Output + Drop, R: Output + Drop>(
     connections: usize,
     notes: N,
     refused: R,
-) -> Result<Server<PagedArchive, DiskKeeper<D>, N, R>, AllocError>
+) -> Result<Server<SparedSet, DiskKeeper<D>, N, R>, AllocError>
     ensures begins { IfOk result (λ server. (es : List Entry) → KeepsOn keeper (kept_whole es)
-        → StandsBy entries_in KeepsOn (intake_of server) (kept_whole es) es []) }
+        → StandsBy spared_entries KeepsOn (intake_of server) (kept_whole es) es []) }
     ensures settled { IfOk result (λ server. NoneWaits (intake_of server).collector) }
     ensures reading { IfOk result (λ server. reading_of (intake_of server).collector ≡ reading) }
     ensures limit { IfOk result (λ server. limit_of (intake_of server).collector
         ≡ max CONNECTIONS_MAX (min connections CONNECTIONS_LIMIT)) }
 {
-    let set = PagedArchive::new(alloc);
+    let set = SparedSet::new(alloc);
     let Ok(collector) = Collector::with_growing_room(alloc, set, reading, connections) else {
         return Err(AllocError);
     };
@@ -53,18 +53,18 @@ pub fn server_on<D: Disk + Drop, N: Output + Drop, R: Output + Drop>(
 /// all that was committed in any of its turns, and nothing that was not received.
 pub fn serve<D: Disk + Drop, N: Output + Drop, R: Output + Drop, Q: ServerSource, P: Pause>(
     alloc: Global,
-    server: &mut Server<PagedArchive, DiskKeeper<D>, N, R>,
+    server: &mut Server<SparedSet, DiskKeeper<D>, N, R>,
     source: &mut Q,
     pause: &mut P,
     options: &ServeOptions,
 ) -> ServeEnd
     ensures leaves { (k : Kept) (first : List Entry) (before : List AcceptedEvent)
-        → StandsBy entries_in KeepsOn (intake_of server.old) k first before
+        → StandsBy spared_entries KeepsOn (intake_of server.old) k first before
         → NoneWaits (intake_of server.old).collector
-        → RunLeaves result (place_of R.state server.old (Q.state source.old))
-        (place_of R.state server.new (Q.state source.new)) k first before }
-    ensures leads { LeadsTo entries_in KeepsOn result (place_of R.state server.old (Q.state source.old))
-        (place_of R.state server.new (Q.state source.new)) }
+        → RunLeaves result (place_of R.state is_short server.old (Q.state source.old))
+        (place_of R.state is_short server.new (Q.state source.new)) k first before }
+    ensures leads { LeadsTo spared_entries KeepsOn result (place_of R.state is_short server.old (Q.state source.old))
+        (place_of R.state is_short server.new (Q.state source.new)) }
 {
     server.serve(alloc, source, pause, options)
 }

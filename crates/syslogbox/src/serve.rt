@@ -7,7 +7,7 @@ use crate::outputs::{Outputs, SharedNotes, SharedRefused};
 use crate::service_manager::ServiceManager;
 use crate::telling::{Teller, shown};
 use crate::time::ServerTime;
-use archive_pages::PagedArchive;
+
 use driver::{NO_MEMORY, report};
 use folder_disk::FolderDisk;
 use octet_devices::ToWrite;
@@ -17,7 +17,7 @@ use socket_source::{Inherited, Listener, OpenFault as SocketFault, SocketSource,
 use std::alloc::{AllocError, Global};
 use std::cell::RefCell;
 use std::time::Duration;
-use store_keeper::server_on;
+use store_keeper::{SparedSet, server_on};
 
 // Room for datagrams that wait, in octets, as far as the system gives it.
 const RECEIVE_BUFFER: u32 = 16 << 20;
@@ -26,7 +26,7 @@ const RECEIVE_BUFFER: u32 = 16 << 20;
 const COUNT_MILLIS: u64 = 60_000;
 
 type Stores<'n, 'f, 'r> = Server<
-    PagedArchive,
+    SparedSet,
     Keeper,
     ToWrite<SharedNotes<'n>>,
     ToWrite<SharedRefused<'f, 'r>>,

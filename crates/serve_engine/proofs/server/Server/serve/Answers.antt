@@ -20,7 +20,7 @@ loop-turn-preserved g c = record {
       (c.loop-turn.invariant.done k first before at none) (rw c.in-On.is at c.turn.ensures.served);
   manner = c.turn.ensures.manner ∙ c.loop-turn.invariant.manner;
   leads = (
-    place_of (g.R.Output.state) c.loop-turn.self (g.Q.ServerSource.state c.loop-turn.source)
+    place_of (g.R.Output.state) (g.K.Keeping.short) c.loop-turn.self (g.Q.ServerSource.state c.loop-turn.source)
         ∷ c.loop-turn.invariant.leads.0,
     (c.loop-turn.invariant.leads.1, rw c.in-On.is at c.turn.ensures.served),
   );
@@ -29,7 +29,7 @@ loop-turn-preserved g c = record {
 pub returns-in-End-clause-served : goal.returns-in-End-clause-served
 returns-in-End-clause-served g c = record {
   leads = (
-    place_of (g.R.Output.state) c.loop-turn.self (g.Q.ServerSource.state c.loop-turn.source),
+    place_of (g.R.Output.state) (g.K.Keeping.short) c.loop-turn.self (g.Q.ServerSource.state c.loop-turn.source),
     c.loop-turn.invariant.leads,
     inr (rw c.in-End.is at c.turn.ensures.served),
   );
@@ -41,7 +41,7 @@ returns-in-End-clause-served g c = record {
 pub returns-clause-served : goal.returns-clause-served
 returns-clause-served g c = record {
   leads = (
-    place_of (g.R.Output.state) c.loop-turn.self (g.Q.ServerSource.state c.loop-turn.source),
+    place_of (g.R.Output.state) (g.K.Keeping.short) c.loop-turn.self (g.Q.ServerSource.state c.loop-turn.source),
     c.loop-turn.invariant.leads,
     inl refl,
   );

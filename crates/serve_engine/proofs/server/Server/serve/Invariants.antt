@@ -16,10 +16,10 @@ invariant-loop-turn g l = record {
       StandsBy (g.S.Store.entries) (g.K.Keeping.stands) l.fn.self.intake k first before →
       NoneWaits l.fn.self.intake.collector →
       SoFar (g.S.Store.entries) (g.K.Keeping.stands)
-      (place_of (g.R.Output.state) l.fn.self (g.Q.ServerSource.state l.fn.source))
-      (place_of (g.R.Output.state) l.self (g.Q.ServerSource.state l.source)) l._turn k first before;
+      (place_of (g.R.Output.state) (g.K.Keeping.short) l.fn.self (g.Q.ServerSource.state l.fn.source))
+      (place_of (g.R.Output.state) (g.K.Keeping.short) l.self (g.Q.ServerSource.state l.source)) l._turn k first before;
   manner : manner_of l.self.intake.collector ≡ manner_of l.fn.self.intake.collector;
   leads : LeadsFrom (g.S.Store.entries) (g.K.Keeping.stands)
-      (place_of (g.R.Output.state) l.fn.self (g.Q.ServerSource.state l.fn.source))
-      (place_of (g.R.Output.state) l.self (g.Q.ServerSource.state l.source));
+      (place_of (g.R.Output.state) (g.K.Keeping.short) l.fn.self (g.Q.ServerSource.state l.fn.source))
+      (place_of (g.R.Output.state) (g.K.Keeping.short) l.self (g.Q.ServerSource.state l.source));
 }

@@ -1,5 +1,5 @@
 use Rattle.store_keeper.proofs.Kept.{commit_kept, same_kept}
-use Rattle.store_keeper.proofs.keeper.DiskKeeperKeepingPagedArchive.commit.Goals as goal
+use Rattle.store_keeper.proofs.keeper.DiskKeeperKeepingSparedSet.commit.Goals as goal
 
 pub returns-in-Ok-clause-ok : goal.returns-in-Ok-clause-ok
 returns-in-Ok-clause-ok g c k stands tells =

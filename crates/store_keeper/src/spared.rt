@@ -1,0 +1,119 @@
+//! A set of records, and memory that is held back for it.
+ghost use Rattle.std.specs.Prelude.{◌≡◌, [], List, false, true};
+ghost use Rattle.archive_pages.specs.Paged.{entries_in};
+ghost use Rattle.archive_text.specs.Entries.{Entry};
+ghost use Rattle.store_keeper.specs.Spares.{is_short, pages_of, spared_entries};
+
+use archive_pages::PagedArchive;
+use archive_text::{AddFault, Added, Store};
+use octet_devices::{Output, WriteFault};
+use std::alloc::{AllocError, Global};
+use syslog_grammar::RecordView;
+use syslog_value::Record;
+
+// How many octets of memory are held back.
+const SPARE: usize = 4 << 20;
+
+/// A set of records, and memory that is held back for it. Where memory is refused to a record, what
+/// was held back is given up, and the record is added. Memory is short then, until the set is empty
+/// again.
+#[derive(Drop)]
+pub struct SparedSet {
+    pages: PagedArchive,
+    spare: Vec<u8>,
+    short: bool,
+}
+
+// Holds memory back, as far as there is some.
+fn hold_back(alloc: Global) -> Vec<u8> {
+    match Vec::with_capacity(alloc, SPARE) {
+        Ok(spare) => spare,
+        Err(_) => Vec::new(alloc),
+    }
+}
+
+impl SparedSet {
+    /// An empty set.
+    pub fn new(alloc: Global) -> SparedSet
+        ensures { spared_entries result ≡ [] }
+    {
+        SparedSet {
+            pages: PagedArchive::new(alloc),
+            spare: hold_back(alloc),
+            short: false,
+        }
+    }
+
+    /// Its records.
+    pub(crate) fn pages(&self) -> &PagedArchive
+        ensures { result.now ≡ pages_of self.now }
+    {
+        &self.pages
+    }
+
+    /// Whether what was held back was given up since the set was empty.
+    pub(crate) fn is_short(&self) -> bool
+        ensures { result ≡ is_short self.now }
+    {
+        self.short
+    }
+
+    /// Gives up what was held back.
+    pub(crate) fn give_up(&mut self, alloc: Global)
+        ensures pages { pages_of self.new ≡ pages_of self.old }
+        ensures short { is_short self.new ≡ true }
+    {
+        self.spare = Vec::new(alloc);
+        self.short = true;
+    }
+
+    /// Empties the set, and holds memory back again where it was given up.
+    pub(crate) fn clear(&mut self, alloc: Global)
+        ensures empty { spared_entries self.new ≡ [] }
+        ensures short { is_short self.new ≡ false }
+    {
+        self.pages = PagedArchive::new(alloc);
+        if self.short {
+            self.spare = hold_back(alloc);
+            self.short = false;
+        }
+    }
+}
+
+impl Store for SparedSet {
+    ghost entries = { λ s. spared_entries s };
+
+    ghost archive = { λ s. s.pages.paged.archive };
+
+    fn add(&mut self, alloc: Global, record: &Record) -> Result<Added, AddFault> {
+        match self.pages.add(alloc, record) {
+            Err(AddFault::Memory) if !self.short => {
+                self.give_up(alloc);
+                self.pages.add(alloc, record)
+            }
+            added => added,
+        }
+    }
+
+    fn add_view(&mut self, alloc: Global, view: &RecordView<'_>) -> Result<Added, AddFault> {
+        match self.pages.add_view(alloc, view) {
+            Err(AddFault::Memory) if !self.short => {
+                self.give_up(alloc);
+                self.pages.add_view(alloc, view)
+            }
+            added => added,
+        }
+    }
+
+    fn holds(&self, alloc: Global, record: &Record) -> Result<bool, AllocError> {
+        self.pages.holds(alloc, record)
+    }
+
+    fn len(&self) -> usize {
+        self.pages.len()
+    }
+
+    fn write<W: Output>(&self, writer: &mut W) -> Result<(), WriteFault> {
+        self.pages.write(writer)
+    }
+}
