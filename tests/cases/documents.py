@@ -17,7 +17,7 @@ from lib.reference import archive_text
 from peers.records import PLAIN
 
 DOCUMENTS = [path for folder in (".", "docs", "cluster") for path in sorted((ROOT / folder).glob("*.md"))]
-TOURS = ["README.md", "docs/COMMANDS.md", "docs/COMING_FROM.md"]  # those that begin in an empty folder
+TOURS = ["README.md", "docs/COMMANDS.md", "docs/COMING_FROM.md", "docs/RECIPES.md"]  # those that begin in an empty folder
 PAGES = sorted((ROOT / "man").glob("*.[1-8]"))
 LINTERS = [["groff", "-ww", "-mandoc", "-Tutf8"], ["mandoc", "-T", "lint", "-W", "warning"]]
 README_LINES, COLUMNS = 150, 120
