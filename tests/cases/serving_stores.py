@@ -491,14 +491,17 @@ def fling(server, octets):
 MOVED = b"it was moved or removed"
 
 
-def ends_moved(runs, name, server, what):
-    """A server whose store was moved ends by itself at the next commit, and tells so."""
+LOOPED = b"Too many levels of symbolic links (os error 40)"
+
+
+def ends_moved(runs, name, server, what, why=MOVED):
+    """A server whose store was moved ends by itself at the next commit, and tells so, or why it cannot look."""
     try:
         server.send("lf", numbered(99) + b"\n")
     except OSError:
         pass  # it has ended already
     status, lines = server.status(), server.lines()
-    right = status == 2 and lines[-2:] == [b"store fault", f"{what}: ".encode() + MOVED]
+    right = status == 2 and lines[-2:] == [b"store fault", f"{what}: ".encode() + why]
     runs.results.check(f"{name}: the end", right, f"{status} {lines}")
 
 
@@ -535,6 +538,12 @@ def removed(runs):
             else:
                 shutil.rmtree(server.store)
             ends_moved(runs, f"{name} is removed", server, f"{server.store}{what}")
+    with runs.server(*any_port("lf"), *SOON) as server:
+        server.send("lf", A + b"\n")
+        runs.holds("before a link takes the name of the folder", server, A)
+        server.store.rename(server.store.with_name("elsewhere"))
+        server.store.symlink_to(server.store.name)
+        ends_moved(runs, "a link that leads to itself", server, server.store, LOOPED)
 
 
 def second(runs):
