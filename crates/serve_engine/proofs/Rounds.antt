@@ -46,14 +46,12 @@ holds_all entries stands way i full t j first es same at settled commits =
     (committed_all entries stands i j first es at none done))
 
 -- where nothing is read
-pub rests_full : (a : Around) → a.full ≡ true → rests a ≡ true
-rests_full a is = ap (λ (b : Bool). if b then true else a.short) is
+pub rests_full : (full short : Bool) → full ≡ true → (if full then true else short) ≡ true
+rests_full full short is = ap (λ (b : Bool). if b then true else short) is
 
-pub rests_short : (a : Around) → a.full ≡ false → a.short ≡ true → rests a ≡ true
-rests_short a room is = ap (λ (b : Bool). if b then true else a.short) room ∙ is
-
-pub reads : (a : Around) → a.full ≡ false → a.short ≡ false → rests a ≡ false
-reads a room enough = ap (λ (b : Bool). if b then true else a.short) room ∙ enough
+-- or is not
+pub as_short : (full short now : Bool) → full ≡ false → short ≡ now → (if full then true else short) ≡ now
+as_short full short now room is = ap (λ (b : Bool). if b then true else short) room ∙ is
 
 -- nothing was read, and a commit was tried
 pub tried : {S K : Type 0} (entries : S → List Entry) (stands : K → Kept → Type 0) (a b : Place S K) (t : Turn)

@@ -38,7 +38,7 @@ use Rattle.serve_engine.specs.declared.turn.Turn.TheVariants.{On, End}
 
 -- what a collector makes of an event is accepted, where its connection is not lost
 abbrev pub accepted_own : (way : Manner) (before : List AcceptedEvent) (e : AcceptedEvent) (r : Received)
-    (os : List Outcome) (own : List AcceptedEvent) (turn : Turn) → IsReceivedAs way before e r os own
+    (os : List Outcome) (own : List AcceptedEvent) (turn : Turn) (is : IsReceivedAs way before e r os own)
     → loses e r os (waits_in e is.1) ≡ false → turn ≡ turn_of e r (waits_in e is.1)
     → IsAccepted way before e own false turn
 accepted_own way before e r os own turn is kept on = record {
@@ -69,7 +69,8 @@ accepted_none way before c k r os own turn is lost on = record {
 
 -- with the end of a connection that is lost
 abbrev pub accepted_closing : (way : Manner) (before : List AcceptedEvent) (c : ℕ) (o : List ℕ) (r : Received)
-    (os : List Outcome) (own closing : List AcceptedEvent) (turn : Turn) → IsReceivedAs way before (Piece c o) r os own
+    (os : List Outcome) (own closing : List AcceptedEvent) (turn : Turn)
+    (is : IsReceivedAs way before (Piece c o) r os own)
     → loses_piece r os (is.1 c) ≡ true → Receives way (before ++ own) (Ended c) closing → turn ≡ On
     → IsAccepted way before (Piece c o) (own ++ closing) true turn
 accepted_closing way before c o r os own closing turn is lost ends on = record {
@@ -102,6 +103,10 @@ pub taken_on : (r : Received) (waits : ℕ)
 taken_on r waits (inl is) = sym (ap (λ (q : Received). turn_after q waits) is)
 taken_on r waits (inr (start, is)) = sym (ap (λ (q : Received). turn_after q waits) is)
 
+-- one that was refused loses it
+pub lost_refused : (r : Received) (os : List Outcome) (waits : ℕ) → r ≡ received.Refused → loses_piece r os waits ≡ true
+lost_refused r os waits is = ap (λ (q : Received). loses_piece q os waits) is
+
 -- where memory was wanted, the frame that waits tells
 pub lost_memory : (r : Received) (os : List Outcome) (waits : ℕ) → r ≡ received.Memory → waits ≡ 0
     → loses_piece r os waits ≡ true
@@ -127,7 +132,7 @@ quiet_datagram way h w v o received.Memory os es none quiet (nothing, empty, sam
 -- nor of a piece, but of its own connection
 quiet_part : (way : FrameReading) (h : History) (w v : ℕ → ℕ) (c : ℕ) (o : List ℕ) (a b : List Entry)
     (os : List Outcome) → NoneOf w → v c ≡ 0 → LogsPart way h w v c o a b os → NoneOf v
-quiet_part way h w v c o a b os none own (inl (empty, nothing, kept, same)) d = same d ∙ none d
+quiet_part way h w v c o a b os none own (inl (empty, (nothing, kept, same))) d = same d ∙ none d
 quiet_part way h w v c o a b os none own (inr (logs, others)) d = elim (eqb_tells c d) [
   | inl (same, eq) ↦ subst (λ (m : ℕ). v m ≡ 0) eq own
   | inr (other, ne) ↦ others d ne ∙ none d

@@ -1,5 +1,5 @@
 -- What a server makes of one event.
-use Rattle.std.specs.Prelude.{◌≡◌, ◌-◌, ◌==◌, ℕ, suc, Bool, true, false, List, [], ◌++◌, length, slice_get, Option, Some, None}
+use Rattle.std.specs.Prelude.{◌≡◌, ◌-◌, ◌==◌, ℕ, zero, suc, Bool, true, false, List, [], ◌++◌, length, slice_get, Option, Some, None}
 use Rattle.std.specs.Prelude.{Result, Ok, Err}
 use Rattle.collect_engine.specs.Receiving.{IfNotMemory, IfRefused, MayNotOpen, ReceivesAs}
 use Rattle.collect_engine.specs.declared.receiving.Received.{Received}
@@ -86,7 +86,7 @@ abbrev pub turn_after : Received → ℕ → Turn
 turn_after received.Accepted waits = On
 turn_after (received.Unterminated start) waits = On
 turn_after received.Refused waits = On
-turn_after received.Memory 0 = On
+turn_after received.Memory zero = On
 turn_after received.Memory (suc waits) = End Memory
 
 -- and after any other event with the next step

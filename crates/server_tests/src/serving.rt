@@ -31,6 +31,12 @@ struct CountKeeper {
 impl Keeping<PagedArchive> for CountKeeper {
     ghost stands = { λ _ _. ⊥ };
 
+    ghost short = { λ _. false };
+
+    fn is_short(&self, _fresh: &PagedArchive) -> bool {
+        false
+    }
+
     fn take(&mut self, alloc: Global, fresh: &mut PagedArchive) -> Result<Taken, KeepFault> {
         let new = fresh.len() as u64;
         self.held = self.held.saturating_add(new);

@@ -1,11 +1,11 @@
 use Rattle.std.proofs.Common.{◌++◌, true, false, List, refl, subst, sym, ap, append_assoc, ◌∙◌}
 use Rattle.syslog_collect.specs.History.{AcceptedEvent, Ended, Piece, history_of}
-use Rattle.serve_engine.specs.Events.{Manner, Receives, ends_in_bad_count, loses_piece, manner_of}
+use Rattle.serve_engine.specs.Events.{Manner, Receives, ends_in_bad_count, manner_of}
 use Rattle.serve_engine.specs.Intakes.{StandsBy}
 use Rattle.serve_engine.specs.Refusals.{kept_in}
 use Rattle.serve_engine.proofs.Refused.{hears_kept, kept_at, kept_frames, kept_starved}
 use Rattle.serve_engine.proofs.Turns.{accepted_closing, accepted_own, ended_memory, kept_memory, lost_memory, lost_taken}
-use Rattle.serve_engine.proofs.Turns.{quiet_memory, still_settled, taken_on}
+use Rattle.serve_engine.proofs.Turns.{lost_refused, quiet_memory, still_settled, taken_on}
 use Rattle.serve_engine.proofs.server.Server.piece.Goals as goal
 
 pub returns-then-frame_waits-clause-served : goal.returns-then-frame_waits-clause-served
@@ -79,7 +79,7 @@ returns-in-Refused-clause-served g c = (
       let taken = accepted_closing (manner_of c.args.self.now.intake.collector) before c.args.conn c.args.octets.now
       c.receive_piece-received.result os made.0 lost.0 _
       (_, _, none, settled, made.2, c.receive_piece-received.ensures.room k first before at)
-      (ap (λ r. loses_piece r os _) c.in-Refused.is) (subst (λ (w : Manner). Receives w (before ++ made.0)
+      (lost_refused c.receive_piece-received.result os _ c.in-Refused.is) (subst (λ (w : Manner). Receives w (before ++ made.0)
       (Ended c.args.conn) lost.0) c.receive_piece-received.ensures.manner lost.2) c.lose-in-Refused.ensures.turn in (
         made.0 ++ lost.0,
         subst (λ (es : List AcceptedEvent). StandsBy (g.S.Store.entries) (g.K.Keeping.stands)

@@ -1,21 +1,21 @@
-use Rattle.std.proofs.Common.{◌∙◌, refl, sym}
-use Rattle.serve_engine.proofs.Rounds.{reads, rests_full, rests_short, stepped, tried}
+use Rattle.std.proofs.Common.{◌∙◌, true, false, refl, sym}
+use Rattle.serve_engine.proofs.Rounds.{as_short, rests_full, stepped, tried}
 use Rattle.serve_engine.proofs.server.Server.turn.Goals as goal
 
 pub returns-then-self-clause-served : goal.returns-then-self-clause-served
 returns-then-self-clause-served g c =
-    tried _ _ _ _ _ (rests_full _ c.if-self.true) refl c.try_again.ensures.served c.try_again.ensures.settled
+    tried _ _ _ _ _ (rests_full _ _ c.if-self.true) refl c.try_again.ensures.served c.try_again.ensures.settled
     c.try_again.ensures.manner c.try_again.ensures.turn c.try_again.ensures.kept
 
 pub returns-then-is_short-clause-served : goal.returns-then-is_short-clause-served
 returns-then-is_short-clause-served g c =
-    tried _ _ _ _ _ (rests_short _ c.if-self.false (sym c.is_short.ensures ∙ c.if-is_short.true)) refl
+    tried _ _ _ _ _ (as_short _ _ true c.if-self.false (sym c.is_short.ensures ∙ c.if-is_short.true)) refl
     c.commit.ensures.served c.commit.ensures.settled c.commit.ensures.manner c.commit.ensures.turn c.commit.ensures.kept
 
 pub returns-clause-served : goal.returns-clause-served
 returns-clause-served g c =
     stepped _ _ _ _ c.next-step.result c.next-step.new.buf _ _
-    (reads _ c.if-self.false (sym c.is_short.ensures ∙ c.if-is_short.false)) c.step.ensures.served.2 (record {
+    (as_short _ _ false c.if-self.false (sym c.is_short.ensures ∙ c.if-is_short.false)) c.step.ensures.served.2 (record {
       between = _;
       buf = c.next-step.new.buf;
       gave = c.next-step.ensures;
