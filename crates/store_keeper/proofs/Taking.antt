@@ -1,6 +1,6 @@
 -- A store takes entries.
 use Rattle.std.proofs.Common.{◌≡◌, ⊎_elim, inl, inr, List, [], ◌∷◌, ◌++◌, refl, sym, ap, subst, ◌∙◌, append_assoc}
-use Rattle.std.specs.Prelude.{ℤ}
+use Rattle.std.specs.Prelude.{ℤ, Result, Ok, Err, OnOk}
 use Rattle.std.specs.List.{AllByRecursion}
 use Rattle.std.proofs.lemmas.List.{append-nil}
 use Rattle.disk.specs.States.{State}
@@ -213,16 +213,20 @@ again store state k some all among kept = kept_alike store state (with_held (wit
     )) kept
 
 -- some of them, and then some
-pub both : (k : Kept) (store : DurableStore) (state : State) (some more all : List Entry) → AreAmong some all
-    → AreAmong more all → IsKept store state (with_held (with_held k some) more)
-    → AreAmong (some ++ more) all × IsKept store state (with_held k (some ++ more))
-both k store state some more all one two kept = (
-  λ x h. ⊎_elim (λ here. one x here) (λ there. two x there) (has_either some more x h),
-  subst (λ (l : List Entry). IsKept store state (record { held = l; committed = k.committed }))
-      (append_assoc k.held some more) kept,
-)
+pub among_both : (some more all : List Entry) → AreAmong some all → AreAmong more all → AreAmong (some ++ more) all
+among_both some more all one two x h = ⊎_elim (λ here. one x here) (λ there. two x there) (has_either some more x h)
+
+pub kept_both : (k : Kept) (store : DurableStore) (state : State) (some more : List Entry)
+    → IsKept store state (with_held (with_held k some) more) → IsKept store state (with_held k (some ++ more))
+kept_both k store state some more kept =
+    subst (λ (l : List Entry). IsKept store state (record { held = l; committed = k.committed }))
+    (append_assoc k.held some more) kept
 
 -- none of them
 pub none : (k : Kept) (store : DurableStore) (state : State) → IsKept store state k
     → IsKept store state (with_held k [])
 none k store state kept = takes_none store state k kept
+
+pub on_ok : {A E : Type 0} (r : Result A E) (P Q : Type 0) → OnOk r P → (P → Q) → OnOk r Q
+on_ok (Ok a) P Q h f = f h
+on_ok (Err e) P Q h f = tt

@@ -1,5 +1,5 @@
 use Rattle.std.proofs.Common.{[]}
-use Rattle.store_keeper.proofs.Taking.{none}
+use Rattle.store_keeper.proofs.Taking.{none, on_ok}
 use Rattle.store_keeper.proofs.keeper.DiskKeeper.add_written.Goals as goal
 
 pub returns-in_err-write_out-clause-some : goal.returns-in_err-write_out-clause-some
@@ -11,8 +11,8 @@ returns-in_err-write_out-clause-some g c k on = (
 )
 
 pub returns-clause-all : goal.returns-clause-all
-returns-clause-all g c k on tells =
-    c.add_all.ensures.all (g.D.Disk.state c.write_out.new.self.disk.disk) k (c.write_out.ensures.kept k on tells)
+returns-clause-all g c = on_ok c.add_all.result _ _ c.add_all.ensures.all (λ takes k on tells.
+    takes (g.D.Disk.state c.write_out.new.self.disk.disk) k (c.write_out.ensures.kept k on tells))
 
 pub returns-clause-some : goal.returns-clause-some
 returns-clause-some g c k on =
