@@ -7,7 +7,6 @@ use crate::outputs::{Outputs, SharedNotes, SharedRefused};
 use crate::service_manager::ServiceManager;
 use crate::telling::{Teller, shown};
 use crate::time::ServerTime;
-
 use driver::{NO_MEMORY, report};
 use folder_disk::FolderDisk;
 use octet_devices::ToWrite;
