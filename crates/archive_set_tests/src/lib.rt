@@ -23,4 +23,6 @@ mod spills;
 #[cfg(test)]
 mod streams;
 #[cfg(test)]
+mod support;
+#[cfg(test)]
 mod trees;

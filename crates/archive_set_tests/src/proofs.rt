@@ -1,9 +1,13 @@
+//! Proofs that records are in an archive, or are not.
+
 use archive_proof::{
     ASKED_MAX, Answer, AskFault, AskedRecord, Proof, Prover, RecordsFault, confirm, put_proof,
     read_proof, read_records,
 };
 use archive_text::{ArchiveFault, entry_of_octets};
 use archive_tree::TreeHead;
+use std::alloc::Global;
+use std::process::Abort;
 use std::test::Fail;
 
 const RECORDS: [&[u8]; 5] = [
@@ -14,11 +18,16 @@ const RECORDS: [&[u8]; 5] = [
     b"<14>1 2024-03-01T00:00:00.000000Z h a - - - z",
 ];
 
+// a record that is asked for
+fn read(alloc: Global, octets: &[u8]) -> Result<AskedRecord, AskFault> {
+    AskedRecord::read(alloc, octets)
+}
+
 // the records that are asked for
-fn asked(rt: &HostRuntime, texts: &[&[u8]]) -> Result<Vec<AskedRecord>, Fail> {
-    let mut records = Vec::new(rt.alloc());
+fn asked(alloc: Global, texts: &[&[u8]]) -> Result<Vec<AskedRecord>, Fail> {
+    let mut records = Vec::new(alloc);
     for octets in texts {
-        if let Ok(record) = AskedRecord::read(rt.alloc(), octets) {
+        if let Ok(record) = read(alloc, octets) {
             records.push(record)?;
         }
     }
@@ -26,8 +35,8 @@ fn asked(rt: &HostRuntime, texts: &[&[u8]]) -> Result<Vec<AskedRecord>, Fail> {
 }
 
 // the head of the records but one, and the texts of the proofs of those that are asked for
-fn proved(rt: &HostRuntime, texts: &[&[u8]], without: usize) -> Result<(TreeHead, Vec<u8>), Fail> {
-    let mut prover = Prover::new(rt.alloc(), asked(rt, texts)?)?;
+fn proved(alloc: Global, texts: &[&[u8]], without: usize) -> Result<(TreeHead, Vec<u8>), Fail> {
+    let mut prover = Prover::new(alloc, asked(alloc, texts)?)?;
     for (n, octets) in RECORDS.iter().enumerate() {
         if n != without {
             if let Ok(entry) = entry_of_octets(octets) {
@@ -35,97 +44,114 @@ fn proved(rt: &HostRuntime, texts: &[&[u8]], without: usize) -> Result<(TreeHead
             }
         }
     }
-    Ok(prover.finish(rt.alloc())?)
+    Ok(prover.finish(alloc)?)
+}
+
+// the first proof of a text, and what is behind it
+fn first_proof<'a>(alloc: Global, text: &'a [u8]) -> Result<Option<(Proof, &'a [u8])>, Fail> {
+    Ok(read_proof(alloc, text)?)
+}
+
+// what a proof of a record shows to someone with this head
+fn shown(head: &TreeHead, record: &AskedRecord, proof: &Proof) -> Answer {
+    confirm(head, &record.entry(), proof)
+}
+
+// sees that the proofs of a text are confirmed with a head, and with that of all records only if
+// none is missing
+fn see_confirmed(
+    rt: &(impl Abort + AllocGlobal),
+    heads: (&TreeHead, &TreeHead),
+    text: &[u8],
+    without: usize,
+) -> Result<(), Fail> {
+    let mut rest = text;
+    for (n, record) in asked(rt.alloc(), &RECORDS)?.iter().enumerate() {
+        let (proof, behind) = first_proof(rt.alloc(), rest)?.ok_or("no proof")?;
+        let right = if n == without {
+            Answer::Absent
+        } else {
+            Answer::Present
+        };
+        let with_all = if without == 5 {
+            right
+        } else {
+            Answer::NotShown
+        };
+        assert!(rt; shown(heads.0, record, &proof) == right);
+        assert!(rt; shown(heads.1, record, &proof) == with_all);
+        rest = behind;
+    }
+    assert!(rt; rest.is_empty());
+    Ok(())
 }
 
 #[test]
 fn proofs_are_confirmed_with_their_own_head_alone(rt: HostRuntime) -> Result<(), Fail> {
-    let (all, none) = proved(&rt, &[], RECORDS.len())?;
+    let (all, none) = proved(rt.alloc(), &[], RECORDS.len())?;
     assert!(rt; none.is_empty());
     for without in 0..6 {
-        let (head, text) = proved(&rt, &RECORDS, without)?;
-        let mut rest = text.as_slice();
-        for (n, record) in asked(&rt, &RECORDS)?.iter().enumerate() {
-            let Some((proof, behind)) = read_proof(rt.alloc(), rest)? else {
-                assert!(rt; false);
-                continue;
-            };
-            let right = if n == without {
-                Answer::Absent
-            } else {
-                Answer::Present
-            };
-            assert!(rt; confirm(&head, &record.entry(), &proof) == right);
-            let other = if without == 5 {
-                right
-            } else {
-                Answer::NotShown
-            };
-            assert!(rt; confirm(&all, &record.entry(), &proof) == other);
-            rest = behind;
-        }
-        assert!(rt; rest.is_empty());
+        let (head, text) = proved(rt.alloc(), &RECORDS, without)?;
+        see_confirmed(&rt, (&head, &all), &text, without)?;
     }
     Ok(())
 }
 
 #[test]
 fn a_proof_is_read_as_it_is_written(rt: HostRuntime) -> Result<(), Fail> {
-    let (_, text) = proved(&rt, &RECORDS[2..3], 2)?;
+    let (_, text) = proved(rt.alloc(), &RECORDS[2..3], 2)?;
+    let octets = text.as_slice();
     assert!(rt;
-        text.as_slice().starts_with(
+        octets.starts_with(
             b"absent\nbefore 45 <12>1 2024-02-29T23:00:00.000000Z h a - - - z\n1 2\n"
         )
     );
-    for cut in 0..text.len() {
-        assert!(rt; read_proof(rt.alloc(), &text.as_slice()[..cut])?.is_none());
+    for cut in 0..octets.len() {
+        assert!(rt; first_proof(rt.alloc(), &octets[..cut])?.is_none());
     }
-    let Some((proof, rest)) = read_proof(rt.alloc(), text.as_slice())? else {
-        assert!(rt; false);
-        return Ok(());
-    };
+    let (proof, rest) = first_proof(rt.alloc(), octets)?.ok_or("no proof")?;
     assert!(rt; rest.is_empty());
     let mut again = Vec::new(rt.alloc());
     put_proof(&mut again, &proof)?;
-    assert_eq!(rt; again.as_slice(), text.as_slice());
+    assert_eq!(rt; again.as_slice(), octets);
     assert!(rt; matches!(&proof, Proof::Absent(Some(_), Some(_))));
     Ok(())
 }
 
 #[test]
 fn a_record_is_asked_for_in_any_spelling(rt: HostRuntime) -> Result<(), Fail> {
-    let spelled = b"<14>1 2024-02-29T23:30:00Z h a - - - y".as_slice();
-    match AskedRecord::read(rt.alloc(), spelled) {
-        Ok(record) => assert_eq!(rt; record.octets.as_slice(), RECORDS[2]),
-        Err(_) => assert!(rt; false),
-    }
-    match AskedRecord::read(rt.alloc(), b"<14>1 ") {
-        Err(AskFault::Bad(_)) => (),
-        _ => assert!(rt; false),
-    }
+    let spelled = read(rt.alloc(), b"<14>1 2024-02-29T23:30:00Z h a - - - y");
+    assert_eq!(rt;
+        spelled.ok().ok_or("a fault")?.octets.as_slice(),
+        RECORDS[2]
+    );
+    assert!(rt; matches!(read(rt.alloc(), b"<14>1 "), Err(AskFault::Bad(_))));
     Ok(())
+}
+
+// how many records a text has
+fn count_of(alloc: Global, text: &[u8]) -> Result<usize, RecordsFault> {
+    match read_records(alloc, text) {
+        Ok(records) => Ok(records.len()),
+        Err(fault) => Err(fault),
+    }
 }
 
 #[test]
 fn records_are_read_from_a_text(rt: HostRuntime) -> Result<(), Fail> {
-    match read_records(rt.alloc(), b"19 <13>1 - h a - - - x9 <13>1 - -x") {
-        Err(RecordsFault::Bad(fault)) => {
-            assert!(rt; matches!(fault, ArchiveFault::BadEntry { at: 22, .. }))
-        }
-        _ => assert!(rt; false),
-    }
+    let bad = count_of(rt.alloc(), b"19 <13>1 - h a - - - x9 <13>1 - -x");
+    assert!(rt;
+        matches!(
+            bad,
+            Err(RecordsFault::Bad(ArchiveFault::BadEntry { at: 22, .. }))
+        )
+    );
     let mut text = Vec::new(rt.alloc());
     for _ in 0..ASKED_MAX {
         text.extend_from_slice(b"19 <13>1 - h a - - - x")?;
     }
-    match read_records(rt.alloc(), text.as_slice()) {
-        Ok(records) => assert_eq!(rt; records.len(), ASKED_MAX),
-        Err(_) => assert!(rt; false),
-    }
+    assert!(rt; matches!(count_of(rt.alloc(), &text), Ok(ASKED_MAX)));
     text.extend_from_slice(b"1")?;
-    match read_records(rt.alloc(), text.as_slice()) {
-        Err(RecordsFault::TooMany) => (),
-        _ => assert!(rt; false),
-    }
+    assert!(rt; matches!(count_of(rt.alloc(), &text), Err(RecordsFault::TooMany)));
     Ok(())
 }

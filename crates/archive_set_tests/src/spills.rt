@@ -1,3 +1,5 @@
+//! Sets that go to a disk, and come back.
+
 use archive_pages::PagedArchive;
 use archive_spill::{
     FolderSpill, JOINED_MAX, JOINED_ROOM, MemorySpill, Spill, SpillCall, SpillFault,
@@ -14,10 +16,33 @@ use syslog_grammar::{decode, view};
 // how many records the tests' set has, each added twice
 const RECORDS: usize = 150;
 
+// a room in which not all of them fit, and one in which they do
+const SMALL: usize = 9_000;
+
+const LARGE: usize = 10_000_000;
+
+// sets whose runs are in memory
+type MemorySet = SpilledArchive<MemorySpill, <MemorySpill as Spill>::Run>;
+
 // the record of a number, at an instant that does not grow with it
 fn numbered(alloc: Global, number: usize) -> Result<String, Fail> {
     let second = number % 60 * 7 % 60;
     Ok(format!(in alloc; "<0>1 2024-02-29T23:00:{second:02}.000000Z h a - - - {number}")?)
+}
+
+// an empty set over a spill
+fn set_over<P: Spill + Drop>(alloc: Global, spill: P, room: usize) -> SpilledArchive<P, P::Run> {
+    SpilledArchive::new(alloc, spill, room)
+}
+
+// an empty set in memory
+fn set_of(alloc: Global, room: usize) -> MemorySet {
+    set_over(alloc, MemorySpill::new(alloc), room)
+}
+
+// an empty set whose call on a run fails
+fn failing(alloc: Global, run: u64, call: SpillCall) -> MemorySet {
+    set_over(alloc, MemorySpill::failing(alloc, run, call), SMALL)
 }
 
 // adds the record of a text by its view
@@ -60,36 +85,48 @@ fn whole(alloc: Global) -> Result<Vec<u8>, Fail> {
     Ok(writer.into_inner())
 }
 
-// what is answered where the tests' records are added and written, and what is written then
+// what is answered where a set is written to a device that takes so many octets, and what it took
+fn written_within<P: Spill + Drop>(
+    alloc: Global,
+    set: SpilledArchive<P, P::Run>,
+    octets: u64,
+) -> (Result<(), SpillFault>, Vec<u8>) {
+    let mut writer = Fuse::new(ToWrite::new(Vec::new(alloc)), octets, u64::MAX);
+    let answer = set.write(&mut writer);
+    (answer, writer.into_inner().into_inner())
+}
+
 fn written<P: Spill + Drop>(
+    alloc: Global,
+    set: SpilledArchive<P, P::Run>,
+) -> (Result<(), SpillFault>, Vec<u8>) {
+    written_within(alloc, set, u64::MAX)
+}
+
+// the same where the tests' records are added first
+fn filled<P: Spill + Drop>(
     alloc: Global,
     mut set: SpilledArchive<P, P::Run>,
 ) -> Result<(Result<(), SpillFault>, Vec<u8>), Fail> {
-    let mut writer = ToWrite::new(Vec::new(alloc));
-    let answer = match add_all(alloc, &mut set)? {
-        Ok(()) => set.write(&mut writer),
-        Err(fault) => Err(fault),
-    };
-    Ok((answer, writer.into_inner()))
+    match add_all(alloc, &mut set)? {
+        Ok(()) => Ok(written(alloc, set)),
+        Err(fault) => Ok((Err(fault), Vec::new(alloc))),
+    }
 }
 
 #[test]
-fn an_empty_set_has_no_text(rt: HostRuntime) -> Result<(), Fail> {
-    let alloc = rt.alloc();
-    let set = SpilledArchive::new(alloc, MemorySpill::new(alloc), 0);
-    let mut writer = ToWrite::new(Vec::new(alloc));
-    assert_eq!(rt; set.write(&mut writer), Ok(()));
-    assert!(rt; writer.into_inner().is_empty());
-    Ok(())
+fn an_empty_set_has_no_text(rt: HostRuntime) {
+    let (answer, octets) = written(rt.alloc(), set_of(rt.alloc(), 0));
+    assert_eq!(rt; answer, Ok(()));
+    assert!(rt; octets.is_empty());
 }
 
 #[test]
 fn every_room_gives_the_same_text(rt: HostRuntime) -> Result<(), Fail> {
     let alloc = rt.alloc();
     let text = whole(alloc)?;
-    for room in [4_500, 6_000, 9_000, 10_000_000] {
-        let set = SpilledArchive::new(alloc, MemorySpill::new(alloc), room);
-        let (answer, octets) = written(alloc, set)?;
+    for room in [4_500, 6_000, SMALL, LARGE] {
+        let (answer, octets) = filled(alloc, set_of(alloc, room))?;
         assert_eq!(rt; answer, Ok(()));
         assert!(rt; octets == text);
     }
@@ -99,7 +136,7 @@ fn every_room_gives_the_same_text(rt: HostRuntime) -> Result<(), Fail> {
 #[test]
 fn few_runs_are_there_at_a_time(rt: HostRuntime) -> Result<(), Fail> {
     let alloc = rt.alloc();
-    let mut set = SpilledArchive::new(alloc, MemorySpill::new(alloc), 0);
+    let mut set = set_of(alloc, 0);
     for number in 0..63 {
         let text = numbered(alloc, number)?;
         assert_eq!(rt; add_text(&mut set, &text)?, Ok(()));
@@ -112,27 +149,36 @@ fn few_runs_are_there_at_a_time(rt: HostRuntime) -> Result<(), Fail> {
 #[test]
 fn a_set_that_fits_makes_no_run(rt: HostRuntime) -> Result<(), Fail> {
     let alloc = rt.alloc();
-    let mut set = SpilledArchive::new(alloc, MemorySpill::new(alloc), 10_000_000);
+    let mut set = set_of(alloc, LARGE);
     assert_eq!(rt; add_all(alloc, &mut set)?, Ok(()));
     assert_eq!(rt; set.runs(), 0);
+    Ok(())
+}
+
+#[test]
+fn a_record_is_added_itself(rt: HostRuntime) -> Result<(), Fail> {
+    let alloc = rt.alloc();
     let record = decode(alloc, b"<0>1 - - - - - - x").ok().ok_or("a fault")?;
-    assert_eq!(rt; set.add(&record), Ok(()));
+    assert_eq!(rt; set_of(alloc, LARGE).add(&record), Ok(()));
     Ok(())
 }
 
 #[test]
 fn as_many_runs_are_joined_as_fit(rt: HostRuntime) {
-    assert_eq!(rt; joined_at_once(0), 2);
-    assert_eq!(rt; joined_at_once(3 * JOINED_ROOM - 1), 2);
-    assert_eq!(rt; joined_at_once(3 * JOINED_ROOM), 3);
-    assert_eq!(rt; joined_at_once(268_435_456), 204);
-    assert_eq!(rt; joined_at_once(usize::MAX), JOINED_MAX);
+    for (room, joined) in [
+        (0, 2),
+        (3 * JOINED_ROOM - 1, 2),
+        (3 * JOINED_ROOM, 3),
+        (268_435_456, 204),
+        (usize::MAX, JOINED_MAX),
+    ] {
+        assert_eq!(rt; joined_at_once(room), joined);
+    }
 }
 
 // whether, where a call on a run fails, that is told behind a prefix of the text, or all is written
 fn is_told(alloc: Global, text: &[u8], run: u64, call: SpillCall) -> Result<bool, Fail> {
-    let set = SpilledArchive::new(alloc, MemorySpill::failing(alloc, run, call), 9_000);
-    let (answer, octets) = written(alloc, set)?;
+    let (answer, octets) = filled(alloc, failing(alloc, run, call))?;
     Ok(match answer {
         Ok(()) => octets.as_slice() == text,
         Err(SpillFault::Spill) => text.starts_with(&octets),
@@ -145,14 +191,17 @@ fn whatever_call_fails_a_prefix_is_written(rt: HostRuntime) -> Result<(), Fail> 
     let alloc = rt.alloc();
     let text = whole(alloc)?;
     for run in 0..6 {
-        assert!(rt; is_told(alloc, &text, run, SpillCall::Make)?);
-        assert!(rt; is_told(alloc, &text, run, SpillCall::Reopen)?);
-        for calls in 0..2 {
-            assert!(rt; is_told(alloc, &text, run, SpillCall::Write { calls })?);
-            assert!(rt; is_told(alloc, &text, run, SpillCall::Read { calls })?);
-        }
-        for octets in [1, 2_000] {
-            assert!(rt; is_told(alloc, &text, run, SpillCall::Full { octets })?);
+        for call in [
+            SpillCall::Make,
+            SpillCall::Reopen,
+            SpillCall::Write { calls: 0 },
+            SpillCall::Write { calls: 1 },
+            SpillCall::Read { calls: 0 },
+            SpillCall::Read { calls: 1 },
+            SpillCall::Full { octets: 1 },
+            SpillCall::Full { octets: 2_000 },
+        ] {
+            assert!(rt; is_told(alloc, &text, run, call)?, "run {run}: {call:?}");
         }
     }
     Ok(())
@@ -168,10 +217,9 @@ fn a_failed_call_is_told(rt: HostRuntime) -> Result<(), Fail> {
         SpillCall::Reopen,
         SpillCall::Read { calls: 0 },
     ] {
-        let set = SpilledArchive::new(alloc, MemorySpill::failing(alloc, 1, call), 9_000);
-        let (answer, octets) = written(alloc, set)?;
-        assert_eq!(rt; answer, Err(SpillFault::Spill));
-        assert!(rt; octets.is_empty());
+        let (answer, octets) = filled(alloc, failing(alloc, 1, call))?;
+        assert_eq!(rt; answer, Err(SpillFault::Spill), "{call:?}");
+        assert!(rt; octets.is_empty(), "{call:?}");
     }
     Ok(())
 }
@@ -179,16 +227,13 @@ fn a_failed_call_is_told(rt: HostRuntime) -> Result<(), Fail> {
 #[test]
 fn a_set_that_lost_a_run_takes_and_writes_nothing(rt: HostRuntime) -> Result<(), Fail> {
     let alloc = rt.alloc();
-    let spill = MemorySpill::failing(alloc, 0, SpillCall::Full { octets: 9 });
-    let mut set = SpilledArchive::new(alloc, spill, 9_000);
+    let mut set = failing(alloc, 0, SpillCall::Full { octets: 9 });
     assert_eq!(rt; add_all(alloc, &mut set)?, Err(SpillFault::Spill));
-    assert_eq!(rt;
-        add_text(&mut set, "<0>1 - - - - - - x")?,
-        Err(SpillFault::Spill)
-    );
-    let mut writer = ToWrite::new(Vec::new(alloc));
-    assert_eq!(rt; set.write(&mut writer), Err(SpillFault::Spill));
-    assert!(rt; writer.into_inner().is_empty());
+    let added = add_text(&mut set, "<0>1 - - - - - - x")?;
+    assert_eq!(rt; added, Err(SpillFault::Spill));
+    let (answer, octets) = written(alloc, set);
+    assert_eq!(rt; answer, Err(SpillFault::Spill));
+    assert!(rt; octets.is_empty());
     Ok(())
 }
 
@@ -196,12 +241,11 @@ fn a_set_that_lost_a_run_takes_and_writes_nothing(rt: HostRuntime) -> Result<(),
 fn an_output_that_fails_is_told(rt: HostRuntime) -> Result<(), Fail> {
     let alloc = rt.alloc();
     let text = whole(alloc)?;
-    for room in [9_000, 10_000_000] {
-        let mut set = SpilledArchive::new(alloc, MemorySpill::new(alloc), room);
+    for room in [SMALL, LARGE] {
+        let mut set = set_of(alloc, room);
         assert_eq!(rt; add_all(alloc, &mut set)?, Ok(()));
-        let mut writer = Fuse::new(ToWrite::new(Vec::new(alloc)), 100, 9);
-        assert_eq!(rt; set.write(&mut writer), Err(SpillFault::Output));
-        let octets = writer.into_inner().into_inner();
+        let (answer, octets) = written_within(alloc, set, 100);
+        assert_eq!(rt; answer, Err(SpillFault::Output));
         assert_eq!(rt; octets.len(), 100);
         assert!(rt; text.starts_with(&octets));
     }
@@ -245,7 +289,7 @@ fn a_run_that_is_read_otherwise_is_told(rt: HostRuntime) -> Result<(), Fail> {
             spill: MemorySpill::new(alloc),
             kept,
         };
-        let (answer, octets) = written(alloc, SpilledArchive::new(alloc, spill, 9_000))?;
+        let (answer, octets) = filled(alloc, set_over(alloc, spill, SMALL))?;
         assert_eq!(rt; answer, Err(SpillFault::Spill));
         assert!(rt; text.starts_with(&octets));
     }
@@ -263,6 +307,11 @@ fn new_folder(rt: &HostRuntime, test: &str) -> io::Result<String> {
     Ok(path)
 }
 
+// Removes a folder, which fails unless nothing is there.
+fn remove(rt: &HostRuntime, path: &str) -> io::Result<()> {
+    fs::remove_dir(rt, path)
+}
+
 #[test]
 fn runs_in_a_folder_leave_nothing_there(rt: HostRuntime) -> Result<(), Fail> {
     let alloc = rt.alloc();
@@ -271,17 +320,17 @@ fn runs_in_a_folder_leave_nothing_there(rt: HostRuntime) -> Result<(), Fail> {
     let taken = format!(in alloc; "{path}/syslogbox.run.1")?;
     fs::write(&rt, taken.as_str(), "x")?;
     let spill = FolderSpill::new(&rt, path.as_str())?;
-    let mut set = SpilledArchive::new(alloc, spill, 9_000);
+    let mut set = set_over(alloc, spill, SMALL);
     assert_eq!(rt; add_all(alloc, &mut set)?, Ok(()));
     assert!(rt; set.runs() > 1);
     fs::remove_file(&rt, taken.as_str())?;
     // nothing else is there, while the runs are
-    fs::remove_dir(&rt, path.as_str())?;
+    remove(&rt, &path)?;
     fs::create_dir(&rt, path.as_str())?;
-    let mut writer = ToWrite::new(Vec::new(alloc));
-    assert_eq!(rt; set.write(&mut writer), Ok(()));
-    assert!(rt; writer.into_inner() == whole(alloc)?);
-    fs::remove_dir(&rt, path.as_str())?;
+    let (answer, octets) = written(alloc, set);
+    assert_eq!(rt; answer, Ok(()));
+    assert!(rt; octets == whole(alloc)?);
+    remove(&rt, &path)?;
     Ok(())
 }
 
@@ -289,10 +338,10 @@ fn runs_in_a_folder_leave_nothing_there(rt: HostRuntime) -> Result<(), Fail> {
 fn a_folder_that_is_not_there_is_told(rt: HostRuntime) -> Result<(), Fail> {
     let alloc = rt.alloc();
     let path = new_folder(&rt, "missing")?;
-    fs::remove_dir(&rt, path.as_str())?;
+    remove(&rt, &path)?;
     let mut spill = FolderSpill::new(&rt, path.as_str())?;
     assert_eq!(rt; spill.make().err(), Some(DeviceFault));
-    let set = SpilledArchive::new(alloc, spill, 9_000);
-    assert_eq!(rt; written(alloc, set)?.0, Err(SpillFault::Spill));
+    let (answer, _) = filled(alloc, set_over(alloc, spill, SMALL))?;
+    assert_eq!(rt; answer, Err(SpillFault::Spill));
     Ok(())
 }

@@ -1,4 +1,7 @@
-use archive_tree::{AuditPath, TreeStream};
+//! Trees over leaves whose roots are known independently.
+
+use archive_tree::{AuditPath, TreeHead, TreeStream};
+use std::process::Abort;
 use std::test::Fail;
 
 // the leaves and the tree heads of Certificate Transparency's own test data
@@ -25,20 +28,26 @@ const ROOTS: [&str; 9] = [
     "5dc9da79a70659a9ad559cb701ded9a2ab9d823aad2f4960cfe370eff4604328",
 ];
 
-fn is_hash(rt: &HostRuntime, hash: &[u8], digits: &str) -> Result<bool, Fail> {
-    Ok(hex::encode(rt.alloc(), hash)?.as_str() == digits)
+fn see_hash(rt: &(impl Abort + AllocGlobal), hash: &[u8], digits: &str) -> Result<(), Fail> {
+    assert_eq!(rt; hex::encode(rt.alloc(), hash)?.as_str(), digits);
+    Ok(())
+}
+
+// the head of a tree over leaves, whose paths are followed
+fn head_of(leaves: &[&[u8]], paths: &mut [AuditPath]) -> TreeHead {
+    let mut tree = TreeStream::new();
+    for leaf in leaves {
+        tree.push(leaf, paths);
+    }
+    tree.finish(paths)
 }
 
 #[test]
 fn roots_are_those_of_certificate_transparency(rt: HostRuntime) -> Result<(), Fail> {
     for (n, root) in ROOTS.iter().enumerate() {
-        let mut tree = TreeStream::new();
-        for leaf in &LEAVES[..n] {
-            tree.push(leaf, &mut []);
-        }
-        let head = tree.finish(&mut []);
+        let head = head_of(&LEAVES[..n], &mut []);
         assert_eq!(rt; head.size, n as u64);
-        assert!(rt; is_hash(&rt, &head.hash, root)?);
+        see_hash(&rt, &head.hash, root)?;
     }
     Ok(())
 }
@@ -46,30 +55,22 @@ fn roots_are_those_of_certificate_transparency(rt: HostRuntime) -> Result<(), Fa
 #[test]
 fn a_path_has_the_hashes_beside_its_way(rt: HostRuntime) -> Result<(), Fail> {
     let mut paths = [AuditPath::new(1), AuditPath::new(4)];
-    let mut tree = TreeStream::new();
-    for leaf in &LEAVES[..5] {
-        tree.push(leaf, &mut paths);
+    head_of(&LEAVES[..5], &mut paths);
+    let beside_second = [
+        ROOTS[1],
+        "5f083f0a1a33ca076a95279832580db3e0ef4584bdff1f54c8a360f50de3031e",
+        "bc1a0643b12e4d2d7c77918f44e0f4f79a838b6cf9ec5b5c283e1f4d88599e6b",
+    ];
+    let beside_last = [ROOTS[4]];
+    for (path, beside) in paths
+        .iter()
+        .zip([beside_second.as_slice(), beside_last.as_slice()])
+    {
+        let hashes = path.hashes.as_slice();
+        assert_eq!(rt; hashes.len(), beside.len());
+        for (hash, digits) in hashes.iter().zip(beside) {
+            see_hash(&rt, hash, digits)?;
+        }
     }
-    tree.finish(&mut paths);
-    let [second, last] = paths;
-    let hashes = second.hashes.as_slice();
-    assert_eq!(rt; hashes.len(), 3);
-    assert!(rt; is_hash(&rt, &hashes[0], ROOTS[1])?);
-    assert!(rt;
-        is_hash(
-            &rt,
-            &hashes[1],
-            "5f083f0a1a33ca076a95279832580db3e0ef4584bdff1f54c8a360f50de3031e"
-        )?
-    );
-    assert!(rt;
-        is_hash(
-            &rt,
-            &hashes[2],
-            "bc1a0643b12e4d2d7c77918f44e0f4f79a838b6cf9ec5b5c283e1f4d88599e6b"
-        )?
-    );
-    assert_eq!(rt; last.hashes.as_slice().len(), 1);
-    assert!(rt; is_hash(&rt, &last.hashes.as_slice()[0], ROOTS[4])?);
     Ok(())
 }
