@@ -1,16 +1,6 @@
-use disk::{Disk, DiskFault, FileName, Fuse, MemoryDisk};
-use std::alloc::Global;
+use crate::calls::{Change, change_all, fused, names_in, octets_of};
+use disk::{DiskFault, FileName, MemoryDisk};
 use std::test::Fail;
-
-fn named(alloc: Global, octets: &[u8]) -> Result<FileName, Fail> {
-    Ok(FileName::new(alloc, octets)?.ok_or("no name")?)
-}
-
-fn shown<D: Disk>(alloc: Global, disk: &mut D, name: &FileName) -> Result<Vec<u8>, Fail> {
-    let mut buf = [0u8; 16];
-    let n = disk.read(name, 0, &mut buf)?;
-    Ok(buf[..n].to_vec(alloc)?)
-}
 
 #[test]
 fn names_are_tested(rt: HostRuntime) -> Result<(), Fail> {
@@ -36,41 +26,38 @@ fn names_are_tested(rt: HostRuntime) -> Result<(), Fail> {
 #[test]
 fn a_file_is_written_cut_and_renamed(rt: HostRuntime) -> Result<(), Fail> {
     let alloc = rt.alloc();
-    let one = named(alloc, b"one")?;
-    let two = named(alloc, b"two")?;
     let mut disk = MemoryDisk::new(alloc);
-    assert_eq!(rt; disk.append(&one, b"a"), Err(DiskFault::Missing));
-    disk.create(&one)?;
-    assert_eq!(rt; disk.create(&one), Err(DiskFault::Exists));
-    disk.append(&one, b"abcd")?;
-    disk.overwrite(&one, 1, b'x')?;
-    disk.cut(&one, 3)?;
-    disk.sync(&one)?;
-    disk.rename(&one, &two)?;
-    disk.sync_names()?;
-    assert_eq!(rt;
-        shown(alloc, &mut disk, &two)?.as_slice(),
-        b"axc".as_slice()
-    );
-    assert_eq!(rt; disk.names(alloc)?.len(), 1);
-    disk.remove(&two)?;
-    assert_eq!(rt; disk.names(alloc)?.len(), 0);
+    let rows = [
+        (Change::Append("one", "a"), Err(DiskFault::Missing)),
+        (Change::Create("one"), Ok(())),
+        (Change::Create("one"), Err(DiskFault::Exists)),
+        (Change::Append("one", "abcd"), Ok(())),
+        (Change::Overwrite("one", 1, b'x'), Ok(())),
+        (Change::Cut("one", 3), Ok(())),
+        (Change::Sync("one"), Ok(())),
+        (Change::Rename("one", "two"), Ok(())),
+        (Change::SyncNames, Ok(())),
+    ];
+    change_all(alloc, &mut disk, &rows)?;
+    assert!(rt; octets_of(alloc, &mut disk, b"two")?.as_slice() == b"axc".as_slice());
+    assert_eq!(rt; names_in(alloc, &mut disk)?.len(), 1);
+    change_all(alloc, &mut disk, &[(Change::Remove("two"), Ok(()))])?;
+    assert_eq!(rt; names_in(alloc, &mut disk)?.len(), 0);
     Ok(())
 }
 
 #[test]
 fn a_fuse_stops_every_later_call(rt: HostRuntime) -> Result<(), Fail> {
     let alloc = rt.alloc();
-    let name = named(alloc, b"one")?;
-    let mut disk = Fuse::new(MemoryDisk::new(alloc), 2);
-    disk.create(&name)?;
-    disk.append(&name, b"ab")?;
-    assert_eq!(rt; disk.append(&name, b"cd"), Err(DiskFault::Failed));
-    assert_eq!(rt; disk.sync(&name), Err(DiskFault::Failed));
+    let mut disk = fused(MemoryDisk::new(alloc), 2);
+    let rows = [
+        (Change::Create("one"), Ok(())),
+        (Change::Append("one", "ab"), Ok(())),
+        (Change::Append("one", "cd"), Err(DiskFault::Failed)),
+        (Change::Sync("one"), Err(DiskFault::Failed)),
+    ];
+    change_all(alloc, &mut disk, &rows)?;
     let mut disk = disk.into_inner();
-    assert_eq!(rt;
-        shown(alloc, &mut disk, &name)?.as_slice(),
-        b"ab".as_slice()
-    );
+    assert!(rt; octets_of(alloc, &mut disk, b"one")?.as_slice() == b"ab".as_slice());
     Ok(())
 }

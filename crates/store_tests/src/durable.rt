@@ -1,11 +1,15 @@
-use archive_text::{AddFault, Added, Store};
-use disk::{Disk, FileName, Fuse, MemoryDisk};
+use crate::calls::{
+    Stop, append, crash, fused, has, has_all, joined, names_in, octets_of, put, stops,
+};
+use crate::stores::{add, checkpoint, commit, count, opened, reopen, text_of};
+use archive_text::{Added, Store};
+use disk::{Disk, MemoryDisk};
 use durable_store::{DurableStore, OpenFault, SetAside};
-use octet_devices::ToWrite;
 use record_store::{JournalDamage, StoreFault};
 use std::alloc::Global;
 use std::test::Fail;
 use syslog_grammar::view;
+use syslog_value::Record;
 
 const FIRST: &[u8] = b"<0>1 - - - - - -";
 
@@ -18,68 +22,105 @@ const FOURTH: &[u8] = b"<14>1 2024-03-01T00:31:00.000000Z h a - - - w";
 // the CRC-32C of the entry of FIRST
 const FIRST_SUM: u32 = 0x1472_fee5;
 
-// adds the record of these octets
-fn add(alloc: Global, store: &mut DurableStore, octets: &[u8]) -> Result<Added, Fail> {
-    let shown = view(octets).ok().ok_or("no record")?;
-    match store.add_view(alloc, &shown) {
-        Ok(added) => Ok(added),
-        Err(_) => Err("refused")?,
-    }
+const JOURNAL: &[u8] = b"journal.1";
+
+const DAMAGED: &[u8] = b"damaged.journal.1";
+
+// a batch of FIRST as older programs wrote it
+const PLAIN: &[u8] = b"\x01\x13\0\0\016 <0>1 - - - - - -";
+
+// what is behind such a batch in a journal that is torn
+const TAIL: &[u8] = b"\0\x05\0\0\0torn";
+
+// A disk, and the store of its folder.
+type Kept = (MemoryDisk, DurableStore);
+
+// What a store does that may stop at any call on its disk.
+#[derive(Clone, Copy)]
+enum Step {
+    Commit,
+    Checkpoint,
 }
 
-// whether octets are somewhere in a text
-fn has(text: &[u8], octets: &[u8]) -> bool {
-    for at in 0..text.len() {
-        if text[at..].starts_with(octets) {
-            return true;
-        }
-    }
-    false
-}
-
-// the archive of what is in memory
-fn text(alloc: Global, store: &DurableStore) -> Result<Vec<u8>, Fail> {
-    let mut text = ToWrite::new(Vec::new(alloc));
-    store.write(&mut text).ok().ok_or("no text")?;
-    Ok(text.into_inner())
+// whether a file of this name counts
+fn counts(name: &[u8]) -> bool {
+    name != b"new.archive".as_slice() && !name.starts_with(b"damaged.")
 }
 
 // the octets of all files that count, one behind the other
 fn all_files(alloc: Global, disk: &mut MemoryDisk) -> Result<Vec<u8>, Fail> {
     let mut all = Vec::new(alloc);
-    for name in disk.names(alloc)? {
-        let octets = name.as_octets();
-        if octets != b"new.archive".as_slice() && !octets.starts_with(b"damaged.") {
-            let mut piece = [0u8; 4096];
-            let n = disk.read(&name, 0, &mut piece)?;
-            if n <= piece.len() {
-                all.extend_from_slice(&piece[..n])?;
-            }
+    for name in names_in(alloc, disk)? {
+        if counts(name.as_octets()) {
+            all.extend_from_slice(&octets_of(alloc, disk, name.as_octets())?)?;
         }
     }
     Ok(all)
 }
 
-// how many files have a name that ends so
-fn count_of(alloc: Global, disk: &mut MemoryDisk, end: &[u8]) -> Result<usize, Fail> {
-    let names = disk.names(alloc)?;
+// how many files are segments
+fn segments(alloc: Global, disk: &mut MemoryDisk) -> Result<usize, Fail> {
+    let names = names_in(alloc, disk)?;
     Ok(
         names
             .iter()
-            .filter(|name| name.as_octets().ends_with(end))
+            .filter(|name| name.as_octets().ends_with(b".archive"))
             .count(),
     )
 }
 
 // a folder with two records that are committed and one that waits
-fn begun(alloc: Global) -> Result<(MemoryDisk, DurableStore), Fail> {
+fn begun(alloc: Global) -> Result<Kept, Fail> {
     let mut disk = MemoryDisk::new(alloc);
-    let mut store = DurableStore::open(alloc, &mut disk)?;
+    let mut store = opened(alloc, &mut disk)?;
     add(alloc, &mut store, THIRD)?;
     add(alloc, &mut store, FIRST)?;
-    store.commit(alloc, &mut disk)?;
+    commit(alloc, &mut store, &mut disk)?;
     add(alloc, &mut store, SECOND)?;
     Ok((disk, store))
+}
+
+// a folder with three records that are committed
+fn committed(alloc: Global) -> Result<Kept, Fail> {
+    let (mut disk, mut store) = begun(alloc)?;
+    commit(alloc, &mut store, &mut disk)?;
+    Ok((disk, store))
+}
+
+// takes a step, and tells whether it was done
+fn takes<D: Disk>(alloc: Global, store: &mut DurableStore, step: Step, disk: &mut D) -> bool {
+    match step {
+        Step::Commit => commit(alloc, store, disk).is_ok(),
+        Step::Checkpoint => checkpoint(alloc, store, disk).is_ok(),
+    }
+}
+
+// A step of the store of `begun` that stops after so many calls, and whether it was told as done.
+fn stopped(alloc: Global, step: Step, calls: u64) -> Result<(Kept, bool), Fail> {
+    let (disk, mut store) = begun(alloc)?;
+    let mut fuse = fused(disk, calls);
+    let done = takes(alloc, &mut store, step, &mut fuse);
+    Ok(((fuse.into_inner(), store), done))
+}
+
+// the disk of a folder whose opening stops after so many calls
+fn half_opened(alloc: Global, disk: MemoryDisk, calls: u64) -> MemoryDisk {
+    let mut fuse = fused(disk, calls);
+    let _stopped = opened(alloc, &mut fuse);
+    fuse.into_inner()
+}
+
+fn record_of(alloc: Global, octets: &[u8]) -> Result<Record, Fail> {
+    let shown = view(octets).ok().ok_or("no record")?;
+    Ok(shown.to_record(alloc).ok().ok_or("memory")?)
+}
+
+fn add_record<S: Store>(alloc: Global, store: &mut S, record: &Record) -> Result<Added, Fail> {
+    Ok(store.add(alloc, record)?)
+}
+
+fn holds<S: Store>(alloc: Global, store: &S, record: &Record) -> Result<bool, Fail> {
+    Ok(store.holds(alloc, record)?)
 }
 
 #[test]
@@ -89,44 +130,36 @@ fn a_record_is_added_once(rt: HostRuntime) -> Result<(), Fail> {
     let waiting = store.waiting();
     assert!(rt; add(alloc, &mut store, FIRST)? == Added::Held);
     assert_eq!(rt; store.waiting(), waiting);
-    assert_eq!(rt; store.len(), 3);
-    store.commit(alloc, &mut disk)?;
+    assert_eq!(rt; count(&store), 3);
+    commit(alloc, &mut store, &mut disk)?;
     assert_eq!(rt; store.waiting(), 0);
     let journal_len = store.journal_len();
-    store.commit(alloc, &mut disk)?;
+    commit(alloc, &mut store, &mut disk)?;
     assert_eq!(rt; store.journal_len(), journal_len);
-    let record = view(FOURTH)
-        .ok()
-        .ok_or("no record")?
-        .to_record(alloc)
-        .ok()
-        .ok_or("memory")?;
-    assert!(rt; store.add(alloc, &record) == Ok(Added::New));
-    assert!(rt; store.add(alloc, &record) == Ok(Added::Held));
-    assert!(rt; store.holds(alloc, &record)?);
+    let record = record_of(alloc, FOURTH)?;
+    assert!(rt; add_record(alloc, &mut store, &record)? == Added::New);
+    assert!(rt; add_record(alloc, &mut store, &record)? == Added::Held);
+    assert!(rt; holds(alloc, &store, &record)?);
     Ok(())
 }
 
 #[test]
 fn a_store_is_opened_with_what_came_since_the_last_checkpoint(rt: HostRuntime) -> Result<(), Fail> {
     let alloc = rt.alloc();
-    let (mut disk, mut store) = begun(alloc)?;
-    store.commit(alloc, &mut disk)?;
-    let mut opened = DurableStore::open(alloc, &mut disk)?;
-    assert!(rt; text(alloc, &opened)? == text(alloc, &store)?);
-    opened.checkpoint(alloc, &mut disk)?;
-    assert_eq!(rt; opened.len(), 0);
-    assert_eq!(rt; opened.journal_len(), 0);
-    assert_eq!(rt; count_of(alloc, &mut disk, b".archive")?, 3);
-    let mut again = DurableStore::open(alloc, &mut disk)?;
-    assert_eq!(rt; again.len(), 0);
-    add(alloc, &mut again, FOURTH)?;
-    again.checkpoint(alloc, &mut disk)?;
-    assert_eq!(rt; count_of(alloc, &mut disk, b".archive")?, 4);
+    let (mut disk, store) = committed(alloc)?;
+    let mut again = opened(alloc, &mut disk)?;
+    assert!(rt; text_of(alloc, &again)? == text_of(alloc, &store)?);
+    checkpoint(alloc, &mut again, &mut disk)?;
+    assert_eq!(rt; count(&again), 0);
+    assert_eq!(rt; again.journal_len(), 0);
+    assert_eq!(rt; segments(alloc, &mut disk)?, 3);
+    let mut later = opened(alloc, &mut disk)?;
+    assert_eq!(rt; count(&later), 0);
+    add(alloc, &mut later, FOURTH)?;
+    checkpoint(alloc, &mut later, &mut disk)?;
+    assert_eq!(rt; segments(alloc, &mut disk)?, 4);
     let all = all_files(alloc, &mut disk)?;
-    for octets in [FIRST, SECOND, THIRD, FOURTH] {
-        assert!(rt; has(&all, octets));
-    }
+    assert!(rt; has_all(&all, &[FIRST, SECOND, THIRD, FOURTH]));
     Ok(())
 }
 
@@ -135,26 +168,25 @@ fn a_store_is_opened_with_what_came_since_the_last_checkpoint(rt: HostRuntime) -
 #[test]
 fn a_checkpoint_may_stop_at_any_call(rt: HostRuntime) -> Result<(), Fail> {
     let alloc = rt.alloc();
-    for calls in 0..40 {
-        for octet in [None, Some(0), Some(1)] {
-            let (disk, mut store) = begun(alloc)?;
-            let mut fuse = Fuse::new(disk, calls);
-            let done = store.checkpoint(alloc, &mut fuse).is_ok();
-            assert_eq!(rt; store.len(), if done { 0 } else { 3 }, "at {calls}");
-            let mut disk = fuse
-                .into_inner()
-                .crash((calls % 3) as usize, octet, calls % 2 == 0)?;
-            let mut opened = DurableStore::open(alloc, &mut disk)?;
-            let all = all_files(alloc, &mut disk)?;
-            assert!(rt; has(&all, FIRST), "at {calls}, {octet:?}");
-            assert!(rt; has(&all, THIRD), "at {calls}, {octet:?}");
-            assert!(rt; has(&all, SECOND) || !done, "at {calls}, {octet:?}");
-            assert!(rt; done || opened.len() > 0 || has(&all, SECOND), "at {calls}");
-            opened.checkpoint(alloc, &mut disk)?;
-            let all = all_files(alloc, &mut disk)?;
-            assert!(rt; has(&all, FIRST), "at {calls}, {octet:?}");
-            assert!(rt; has(&all, THIRD), "at {calls}, {octet:?}");
-        }
+    for stop in &stops(alloc, 40, &[0], &[None, Some(0), Some(1)])? {
+        let ((disk, store), done) = stopped(alloc, Step::Checkpoint, stop.calls)?;
+        assert_eq!(rt; count(&store), if done { 0 } else { 3 }, "at {stop:?}");
+        let mut disk = crash(
+            disk,
+            (stop.calls % 3) as usize,
+            stop.octet,
+            stop.calls % 2 == 0,
+        )?;
+        let mut again = opened(alloc, &mut disk)?;
+        let all = all_files(alloc, &mut disk)?;
+        assert!(rt; has_all(&all, &[FIRST, THIRD]), "at {stop:?}");
+        assert!(rt;
+            has(&all, SECOND) || !done && count(&again) > 0,
+            "at {stop:?}"
+        );
+        checkpoint(alloc, &mut again, &mut disk)?;
+        let all = all_files(alloc, &mut disk)?;
+        assert!(rt; has_all(&all, &[FIRST, THIRD]), "at {stop:?}");
     }
     Ok(())
 }
@@ -165,25 +197,44 @@ fn a_checkpoint_may_stop_at_any_call(rt: HostRuntime) -> Result<(), Fail> {
 fn a_checkpoint_is_made_again(rt: HostRuntime) -> Result<(), Fail> {
     let alloc = rt.alloc();
     for calls in 0..40 {
-        let (disk, mut store) = begun(alloc)?;
-        let mut fuse = Fuse::new(disk, calls);
-        let done = store.checkpoint(alloc, &mut fuse).is_ok();
-        let mut disk = fuse.into_inner();
+        let ((mut disk, mut store), done) = stopped(alloc, Step::Checkpoint, calls)?;
         if !done {
-            assert_eq!(rt; store.commit(alloc, &mut disk), Err(StoreFault::Broken));
+            assert_eq!(rt;
+                commit(alloc, &mut store, &mut disk),
+                Err(StoreFault::Broken)
+            );
             add(alloc, &mut store, FOURTH)?;
-            store.reopen(alloc, &mut disk)?;
-            store.checkpoint(alloc, &mut disk)?;
+            reopen(alloc, &mut store, &mut disk)?;
+            checkpoint(alloc, &mut store, &mut disk)?;
         }
-        assert_eq!(rt; store.len(), 0);
-        let mut disk = disk.crash(1, Some(1), true)?;
+        assert_eq!(rt; count(&store), 0);
+        let mut disk = crash(disk, 1, Some(1), true)?;
         let all = all_files(alloc, &mut disk)?;
-        for octets in [FIRST, SECOND, THIRD] {
-            assert!(rt; has(&all, octets), "at {calls}");
-        }
+        assert!(rt; has_all(&all, &[FIRST, SECOND, THIRD]), "at {calls}");
         assert!(rt; done || has(&all, FOURTH), "at {calls}");
     }
     Ok(())
+}
+
+// Whether what is committed outlives a commit that stops with a crash, and an opening that does so behind `more`
+// calls.
+fn outlives(alloc: Global, stop: &Stop, more: u64) -> Result<bool, Fail> {
+    let ((disk, _store), done) = stopped(alloc, Step::Commit, stop.calls)?;
+    let disk = half_opened(alloc, crash(disk, stop.kept, stop.octet, true)?, more);
+    let again = opened(alloc, &mut crash(disk, 1, stop.octet, false)?)?;
+    let all = text_of(alloc, &again)?;
+    let is_held = has_all(&all, &[FIRST, THIRD]) && (has(&all, SECOND) || !done);
+    Ok(is_held && count(&again) <= 3)
+}
+
+// the number of calls behind which the opening stops that loses something
+fn first_loss(alloc: Global, stop: &Stop) -> Result<Option<u64>, Fail> {
+    for more in 0..8 {
+        if !outlives(alloc, stop, more)? {
+            return Ok(Some(more));
+        }
+    }
+    Ok(None)
 }
 
 // A commit that is stopped at each of its calls, with a crash whatever it leaves, and then the opening
@@ -191,49 +242,21 @@ fn a_checkpoint_is_made_again(rt: HostRuntime) -> Result<(), Fail> {
 #[test]
 fn a_second_crash_may_come_in_the_recovery(rt: HostRuntime) -> Result<(), Fail> {
     let alloc = rt.alloc();
-    for calls in 0..6 {
-        for more in 0..8 {
-            for octet in [None, Some(254), Some(1)] {
-                let (disk, mut store) = begun(alloc)?;
-                let mut fuse = Fuse::new(disk, calls);
-                let done = store.commit(alloc, &mut fuse).is_ok();
-                let disk = fuse.into_inner().crash(3, octet, true)?;
-                let mut fuse = Fuse::new(disk, more);
-                let _stopped = DurableStore::open(alloc, &mut fuse);
-                let mut disk = fuse.into_inner().crash(1, octet, false)?;
-                let opened = DurableStore::open(alloc, &mut disk)?;
-                let all = text(alloc, &opened)?;
-                assert!(rt; has(&all, FIRST), "at {calls}, {more}");
-                assert!(rt; has(&all, THIRD), "at {calls}, {more}");
-                assert!(rt; has(&all, SECOND) || !done, "at {calls}, {more}");
-                assert!(rt; opened.len() <= 3, "at {calls}, {more}");
-            }
-        }
+    for stop in &stops(alloc, 6, &[3], &[None, Some(254), Some(1)])? {
+        assert_eq!(rt; first_loss(alloc, stop)?, None, "at {stop:?}");
     }
     Ok(())
 }
 
-// a small file
-fn octets_of(alloc: Global, disk: &mut MemoryDisk, name: &[u8]) -> Result<Vec<u8>, Fail> {
-    let name = FileName::new(alloc, name)?.ok_or("no name")?;
-    let mut piece = [0u8; 1024];
-    let n = disk.read(&name, 0, &mut piece)?;
-    Ok(piece.get(..n).ok_or("too long")?.to_vec(alloc)?)
-}
-
 // the file of the first journal
 fn journal(alloc: Global, disk: &mut MemoryDisk) -> Result<Vec<u8>, Fail> {
-    octets_of(alloc, disk, b"journal.1")
+    octets_of(alloc, disk, JOURNAL)
 }
 
 // a folder with this journal
 fn with_journal(alloc: Global, octets: &[u8]) -> Result<MemoryDisk, Fail> {
-    let name = FileName::new(alloc, b"journal.1")?.ok_or("no name")?;
     let mut disk = MemoryDisk::new(alloc);
-    disk.create(&name)?;
-    disk.append(&name, octets)?;
-    disk.sync(&name)?;
-    disk.sync_names()?;
+    put(alloc, &mut disk, JOURNAL, &[octets])?;
     Ok(disk)
 }
 
@@ -242,13 +265,12 @@ fn with_journal(alloc: Global, octets: &[u8]) -> Result<MemoryDisk, Fail> {
 fn a_batch_is_sealed(rt: HostRuntime) -> Result<(), Fail> {
     let alloc = rt.alloc();
     let mut disk = MemoryDisk::new(alloc);
-    let mut store = DurableStore::open(alloc, &mut disk)?;
+    let mut store = opened(alloc, &mut disk)?;
     add(alloc, &mut store, FIRST)?;
-    store.commit(alloc, &mut disk)?;
-    let mut want = b"\x01\x1c\0\0\0".to_vec(alloc)?;
-    want.extend_from_slice(b"16 <0>1 - - - - - -#\x13\0\0\0")?;
-    want.extend_from_slice(&FIRST_SUM.to_le_bytes())?;
-    want.push(254)?;
+    commit(alloc, &mut store, &mut disk)?;
+    let sum = FIRST_SUM.to_le_bytes();
+    let front = b"\x01\x1c\0\0\016 <0>1 - - - - - -#\x13\0\0\0";
+    let want = joined(alloc, &[front, &sum, &[254]])?;
     assert!(rt; journal(alloc, &mut disk)? == want);
     Ok(())
 }
@@ -257,46 +279,40 @@ fn a_batch_is_sealed(rt: HostRuntime) -> Result<(), Fail> {
 #[test]
 fn an_older_journal_goes_on(rt: HostRuntime) -> Result<(), Fail> {
     let alloc = rt.alloc();
-    let older = b"\x01\x13\0\0\016 <0>1 - - - - - -\0\x05\0\0\0torn";
-    let mut disk = with_journal(alloc, older)?;
-    let mut store = DurableStore::open(alloc, &mut disk)?;
-    assert_eq!(rt; store.len(), 1);
-    let opened = journal(alloc, &mut disk)?;
-    assert!(rt; opened.len() == 25 && opened[..24] == older[..24] && opened[24] == 254);
+    let mut disk = with_journal(alloc, &joined(alloc, &[PLAIN, TAIL])?)?;
+    let mut store = opened(alloc, &mut disk)?;
+    assert_eq!(rt; count(&store), 1);
+    assert!(rt; journal(alloc, &mut disk)? == joined(alloc, &[PLAIN, &[254]])?);
     add(alloc, &mut store, SECOND)?;
-    store.commit(alloc, &mut disk)?;
-    let again = DurableStore::open(alloc, &mut disk)?;
-    assert!(rt; text(alloc, &again)? == text(alloc, &store)?);
-    assert_eq!(rt; again.len(), 2);
+    commit(alloc, &mut store, &mut disk)?;
+    let again = opened(alloc, &mut disk)?;
+    assert!(rt; text_of(alloc, &again)? == text_of(alloc, &store)?);
+    assert_eq!(rt; count(&again), 2);
     Ok(())
 }
 
-// octets of the first journal
-fn of_first(octets: u64) -> [SetAside; 1] {
-    [SetAside { number: 1, octets }]
+// whether so many octets of the first journal, and of no other, were set aside
+fn is_aside(store: &DurableStore, octets: u64) -> bool {
+    let of_first = [SetAside { number: 1, octets }];
+    store.set_aside() == of_first.as_slice()
 }
 
 // What is behind the batches is set aside before it is cut off, behind what was set aside before.
 #[test]
 fn what_is_cut_off_is_set_aside(rt: HostRuntime) -> Result<(), Fail> {
     let alloc = rt.alloc();
-    let torn = b"\x01\x13\0\0\016 <0>1 - - - - - -\0\x05\0\0\0torn";
-    let mut disk = with_journal(alloc, torn)?;
-    let store = DurableStore::open(alloc, &mut disk)?;
-    assert!(rt; store.set_aside() == of_first(9).as_slice());
-    let tail: &[u8] = &torn[24..];
-    assert!(rt; octets_of(alloc, &mut disk, b"damaged.journal.1")?.as_slice() == tail);
-    let again = DurableStore::open(alloc, &mut disk)?;
+    let mut disk = with_journal(alloc, &joined(alloc, &[PLAIN, TAIL])?)?;
+    let store = opened(alloc, &mut disk)?;
+    assert!(rt; is_aside(&store, 9));
+    assert!(rt; octets_of(alloc, &mut disk, DAMAGED)?.as_slice() == TAIL);
+    let again = opened(alloc, &mut disk)?;
     assert_eq!(rt; again.set_aside().len(), 0);
-    let name = FileName::new(alloc, b"journal.1")?.ok_or("no name")?;
-    disk.append(&name, b"zero")?;
-    let later = DurableStore::open(alloc, &mut disk)?;
-    assert!(rt; later.set_aside() == of_first(5).as_slice());
-    assert_eq!(rt; later.len(), 1);
-    let aside = octets_of(alloc, &mut disk, b"damaged.journal.1")?;
-    let mut all = tail.to_vec(alloc)?;
-    all.extend_from_slice(b"\xfezero")?;
-    assert!(rt; aside == all);
+    append(alloc, &mut disk, JOURNAL, b"zero")?;
+    let later = opened(alloc, &mut disk)?;
+    assert!(rt; is_aside(&later, 5));
+    assert_eq!(rt; count(&later), 1);
+    let all = joined(alloc, &[TAIL, b"\xfezero"])?;
+    assert!(rt; octets_of(alloc, &mut disk, DAMAGED)? == all);
     Ok(())
 }
 
@@ -305,50 +321,43 @@ fn what_is_cut_off_is_set_aside(rt: HostRuntime) -> Result<(), Fail> {
 #[test]
 fn a_journal_that_reads_as_empty_is_set_aside(rt: HostRuntime) -> Result<(), Fail> {
     let alloc = rt.alloc();
-    let (mut disk, mut store) = begun(alloc)?;
-    store.commit(alloc, &mut disk)?;
+    let (mut disk, _store) = committed(alloc)?;
     let mut octets = journal(alloc, &mut disk)?;
     let front = octets.len().min(16);
     octets[..front].fill(0);
     for calls in 0..16 {
-        let mut fuse = Fuse::new(with_journal(alloc, &octets)?, calls);
-        let _opened = DurableStore::open(alloc, &mut fuse);
-        let mut disk = fuse.into_inner();
+        let mut disk = half_opened(alloc, with_journal(alloc, &octets)?, calls);
         if journal(alloc, &mut disk)? == octets {
-            let opened = DurableStore::open(alloc, &mut disk)?;
-            assert!(rt;
-                opened.set_aside() == of_first(octets.len() as u64).as_slice(),
-                "at {calls}"
-            );
-            assert_eq!(rt; opened.len(), 0);
+            let again = opened(alloc, &mut disk)?;
+            assert!(rt; is_aside(&again, octets.len() as u64), "at {calls}");
+            assert_eq!(rt; count(&again), 0);
         }
-        let aside = octets_of(alloc, &mut disk, b"damaged.journal.1")?;
+        let aside = octets_of(alloc, &mut disk, DAMAGED)?;
         assert!(rt; aside.ends_with(&octets), "at {calls}");
     }
     Ok(())
+}
+
+// whether a folder's first journal is told as damaged so, and left as it is
+fn is_told(alloc: Global, octets: &[u8], fault: JournalDamage) -> Result<bool, Fail> {
+    let mut disk = with_journal(alloc, octets)?;
+    let told = opened(alloc, &mut disk).err();
+    let is_same = journal(alloc, &mut disk)?.as_slice() == octets;
+    Ok(is_same && told == Some(OpenFault::Damaged { number: 1, fault }))
 }
 
 // Once a batch has its seal, one without a seal is damage.
 #[test]
 fn a_batch_without_a_seal_behind_a_sealed_one_is_damage(rt: HostRuntime) -> Result<(), Fail> {
     let alloc = rt.alloc();
-    let (mut disk, mut store) = begun(alloc)?;
-    store.commit(alloc, &mut disk)?;
+    let (mut disk, _store) = committed(alloc)?;
     let whole = journal(alloc, &mut disk)?;
-    let plain = b"\x01\x13\0\0\016 <0>1 - - - - - -";
-    let mut behind = whole[..whole.len().saturating_sub(1)].to_vec(alloc)?;
-    behind.extend_from_slice(plain)?;
-    let at = behind.len() as u64;
-    behind.push(254)?;
-    let mut disk = with_journal(alloc, &behind)?;
-    let fault = JournalDamage::Checksum { at };
-    let told = DurableStore::open(alloc, &mut disk).err();
-    assert!(rt; told == Some(OpenFault::Damaged { number: 1, fault }));
-    assert!(rt; journal(alloc, &mut disk)? == behind);
-    let mut before = plain.to_vec(alloc)?;
-    before.extend_from_slice(&whole)?;
-    let opened = DurableStore::open(alloc, &mut with_journal(alloc, &before)?)?;
-    assert_eq!(rt; opened.len(), 3);
+    let batches = &whole[..whole.len().saturating_sub(1)];
+    let at = batches.len().saturating_add(PLAIN.len()) as u64;
+    let behind = joined(alloc, &[batches, PLAIN, &[254]])?;
+    assert!(rt; is_told(alloc, &behind, JournalDamage::Checksum { at })?);
+    let mut disk = with_journal(alloc, &joined(alloc, &[PLAIN, &whole])?)?;
+    assert_eq!(rt; count(&opened(alloc, &mut disk)?), 3);
     Ok(())
 }
 
@@ -356,8 +365,7 @@ fn a_batch_without_a_seal_behind_a_sealed_one_is_damage(rt: HostRuntime) -> Resu
 #[test]
 fn a_damaged_journal_is_told_first(rt: HostRuntime) -> Result<(), Fail> {
     let alloc = rt.alloc();
-    let (mut disk, mut store) = begun(alloc)?;
-    store.commit(alloc, &mut disk)?;
+    let (mut disk, _store) = committed(alloc)?;
     let whole = journal(alloc, &mut disk)?;
     let rows = [
         (0, 254, JournalDamage::Hidden { at: 0 }),
@@ -372,14 +380,7 @@ fn a_damaged_journal_is_told_first(rt: HostRuntime) -> Result<(), Fail> {
         if at < octets.len() {
             octets[at] = octet;
         }
-        let mut disk = with_journal(alloc, &octets)?;
-        let told = match DurableStore::open(alloc, &mut disk) {
-            Ok(_) => None,
-            Err(told) => Some(told),
-        };
-        let want = OpenFault::Damaged { number: 1, fault };
-        assert!(rt; told == Some(want), "at {at}");
-        assert!(rt; journal(alloc, &mut disk)? == octets, "at {at}");
+        assert!(rt; is_told(alloc, &octets, fault)?, "at {at}");
     }
     Ok(())
 }

@@ -1,10 +1,10 @@
-use archive_sets::InRange;
-use disk::{Disk, DiskFault, FileName, MemoryDisk};
-use octet_devices::{FromRead, Fuse, ToWrite};
+use crate::calls::{joined, named, overwrite, put};
+use crate::views::{ALL, view_of};
+use disk::{DiskFault, FileName, MemoryDisk};
+use octet_devices::{Output, ToWrite};
 use std::alloc::Global;
-use std::io::{self, Cursor};
 use std::test::Fail;
-use std::{env, fs, process};
+use std::{env, fs, io, process};
 use store_engine::{NoStore, SystemFolder, read_store, report_no_store, verify_store};
 use store_reading::Folder;
 
@@ -19,90 +19,80 @@ const A: &[u8] = b"19 <13>1 - h a - - - x";
 
 const B: &[u8] = b"45 <12>1 2024-02-29T23:00:00.000000Z h a - - - z";
 
-const ALL: InRange = InRange {
-    from: None,
-    to: None,
-    undated: false,
-};
-
-// The files of a disk, each of which fails behind so many octets.
-#[derive(Drop)]
-struct View {
-    disk: MemoryDisk,
-    octets: u64,
-}
-
-impl Folder for View {
-    ghost use Rattle.std.specs.Prelude.{None};
-
-    type File = Fuse<FromRead<Cursor<Vec<u8>>>>;
-
-    ghost files = { λ _ _. None };
-
-    ghost tells = { λ _. ⊥ };
-
-    ghost has_failed = { λ _. Unit {0} };
-
-    fn names(&mut self, alloc: Global) -> Result<Vec<FileName>, DiskFault> {
-        self.disk.names(alloc)
-    }
-
-    fn open(&mut self, alloc: Global, name: &FileName) -> Result<Self::File, DiskFault> {
-        let mut octets = vec![in alloc; 0u8; 4096]?;
-        let n = self.disk.read(name, 0, &mut octets)?;
-        octets.truncate(n);
-        let device = FromRead::new(Cursor::new(octets));
-        Ok(Fuse::new(device, self.octets, u64::MAX))
-    }
-}
-
-fn put(alloc: Global, disk: &mut MemoryDisk, name: &[u8], texts: &[&[u8]]) -> Result<(), Fail> {
-    let name = FileName::new(alloc, name)?.ok_or("no name")?;
-    disk.create(&name)?;
-    for text in texts {
-        disk.append(&name, text)?;
-    }
-    Ok(())
-}
+// a batch of an entry, as older programs wrote it
+const BATCH: &[u8] = &[1, 22, 0, 0, 0];
 
 // a folder of a segment and of a journal
 fn stored(alloc: Global) -> Result<MemoryDisk, Fail> {
     let mut disk = MemoryDisk::new(alloc);
     put(alloc, &mut disk, FIRST, &[B])?;
-    put(alloc, &mut disk, b"journal.1", &[&[1, 22, 0, 0, 0], A])?;
+    put(alloc, &mut disk, b"journal.1", &[BATCH, A])?;
     Ok(disk)
 }
 
-fn make_view(disk: MemoryDisk) -> View {
-    View {
-        disk,
-        octets: u64::MAX,
-    }
+// The status of a command, and what it writes to its output and to its diagnostics.
+type Ran = (u8, Vec<u8>, Vec<u8>);
+
+fn read_to<F: Folder, W: Output, N: Output>(
+    alloc: Global,
+    folder: &mut F,
+    output: &mut W,
+    diagnostics: &mut N,
+) -> u8 {
+    read_store(alloc, folder, ALL, output, diagnostics)
 }
 
-fn joined(alloc: Global, texts: &[&[u8]]) -> Result<Vec<u8>, Fail> {
-    let mut all = Vec::new(alloc);
-    for text in texts {
-        all.extend_from_slice(text)?;
-    }
-    Ok(all)
+fn verify_to<F: Folder, W: Output, N: Output>(
+    alloc: Global,
+    folder: &mut F,
+    output: &mut W,
+    diagnostics: &mut N,
+) -> u8 {
+    verify_store(alloc, folder, output, diagnostics)
 }
 
-// the status of `read`, and what it writes
-fn read_of(alloc: Global, view: &mut View) -> Result<(u8, Vec<u8>, Vec<u8>), Fail> {
+fn read_of<F: Folder>(alloc: Global, folder: &mut F) -> Ran {
     let mut output = ToWrite::new(Vec::new(alloc));
     let mut diagnostics = ToWrite::new(Vec::new(alloc));
-    let status = read_store(alloc, view, ALL, &mut output, &mut diagnostics);
-    Ok((status, output.into_inner(), diagnostics.into_inner()))
+    let status = read_to(alloc, folder, &mut output, &mut diagnostics);
+    (status, output.into_inner(), diagnostics.into_inner())
+}
+
+fn verify_of<F: Folder>(alloc: Global, folder: &mut F) -> Ran {
+    let mut output = ToWrite::new(Vec::new(alloc));
+    let mut diagnostics = ToWrite::new(Vec::new(alloc));
+    let status = verify_to(alloc, folder, &mut output, &mut diagnostics);
+    (status, output.into_inner(), diagnostics.into_inner())
+}
+
+// what `read` does on the folder of a disk
+fn read_disk(alloc: Global, disk: &mut MemoryDisk) -> Result<Ran, Fail> {
+    Ok(read_of(alloc, &mut view_of(alloc, disk)?))
+}
+
+// what `verify` does on the folder of a disk
+fn verify_disk(alloc: Global, disk: &mut MemoryDisk) -> Result<Ran, Fail> {
+    Ok(verify_of(alloc, &mut view_of(alloc, disk)?))
+}
+
+// whether a command ended so
+fn is(
+    alloc: Global,
+    ran: &Ran,
+    status: u8,
+    output: &[&[u8]],
+    diagnostics: &[&[u8]],
+) -> Result<bool, Fail> {
+    let (found, written, told) = ran;
+    let same = *written == joined(alloc, output)? && *told == joined(alloc, diagnostics)?;
+    Ok(*found == status && same)
 }
 
 #[test]
 fn a_store_is_read(rt: HostRuntime) -> Result<(), Fail> {
     let alloc = rt.alloc();
-    let (status, text, line) = read_of(alloc, &mut make_view(stored(alloc)?))?;
-    assert_eq!(rt; status, 0);
-    assert!(rt; text == joined(alloc, &[A, B])?);
-    assert!(rt; line.is_empty());
+    let ran = read_disk(alloc, &mut stored(alloc)?)?;
+    assert!(rt; is(alloc, &ran, 0, &[A, B], &[])?, "{ran:?}");
     Ok(())
 }
 
@@ -110,11 +100,10 @@ fn a_store_is_read(rt: HostRuntime) -> Result<(), Fail> {
 fn a_damaged_file_is_told_with_its_name(rt: HostRuntime) -> Result<(), Fail> {
     let alloc = rt.alloc();
     let mut disk = stored(alloc)?;
-    disk.overwrite(&FileName::new(alloc, FIRST)?.ok_or("no name")?, 5, b'!')?;
-    let (status, text, line) = read_of(alloc, &mut make_view(disk))?;
-    assert_eq!(rt; status, 1);
-    assert!(rt; text == joined(alloc, &[A])?);
-    assert!(rt; line == joined(alloc, &[FIRST, b" bad-entry 0 syntax priority 2\n"])?);
+    overwrite(alloc, &mut disk, FIRST, 5, b'!')?;
+    let ran = read_disk(alloc, &mut disk)?;
+    let line = [FIRST, b" bad-entry 0 syntax priority 2\n"];
+    assert!(rt; is(alloc, &ran, 1, &[A], &line)?, "{ran:?}");
     Ok(())
 }
 
@@ -123,68 +112,53 @@ fn a_segment_with_the_name_of_another_is_told(rt: HostRuntime) -> Result<(), Fai
     let alloc = rt.alloc();
     let mut disk = stored(alloc)?;
     put(alloc, &mut disk, OTHER, &[B])?;
-    let (status, text, line) = read_of(alloc, &mut make_view(disk))?;
-    assert_eq!(rt; status, 1);
-    assert!(rt; text == joined(alloc, &[A])?);
-    assert!(rt; line == joined(alloc, &[OTHER, b" digest\n"])?);
+    let ran = read_disk(alloc, &mut disk)?;
+    assert!(rt;
+        is(alloc, &ran, 1, &[A], &[OTHER, b" digest\n"])?,
+        "{ran:?}"
+    );
     Ok(())
-}
-
-// the status of `verify`, and what it writes
-fn verify_of(alloc: Global, view: &mut View) -> Result<(u8, Vec<u8>, Vec<u8>), Fail> {
-    let mut output = ToWrite::new(Vec::new(alloc));
-    let mut diagnostics = ToWrite::new(Vec::new(alloc));
-    let status = verify_store(alloc, view, &mut output, &mut diagnostics);
-    Ok((status, output.into_inner(), diagnostics.into_inner()))
 }
 
 #[test]
 fn each_damaged_file_has_a_line(rt: HostRuntime) -> Result<(), Fail> {
     let alloc = rt.alloc();
-    let (status, lines, line) = verify_of(alloc, &mut make_view(stored(alloc)?))?;
-    assert_eq!(rt; status, 0);
-    assert!(rt; lines.is_empty());
-    assert!(rt; line.is_empty());
+    let ran = verify_disk(alloc, &mut stored(alloc)?)?;
+    assert!(rt; is(alloc, &ran, 0, &[], &[])?, "{ran:?}");
     let mut disk = stored(alloc)?;
     put(alloc, &mut disk, OTHER, &[B])?;
-    put(
-        alloc,
-        &mut disk,
-        b"journal.2",
-        &[&[1, 31, 0, 0, 0], A, b"#12345678"],
-    )?;
+    let unsealed = [&[1, 31, 0, 0, 0], A, b"#12345678"];
+    put(alloc, &mut disk, b"journal.2", &unsealed)?;
     put(alloc, &mut disk, b"journal.3", &[&[9, 9]])?;
-    let (status, lines, line) = verify_of(alloc, &mut make_view(disk))?;
-    assert_eq!(rt; status, 1);
-    assert!(rt;
-        lines
-            == joined(
-                alloc,
-                &[
-                    OTHER,
-                    b" digest\njournal.2 checksum 27\njournal.3 hidden 0\n",
-                ],
-            )?
-    );
-    assert!(rt; line.is_empty());
-    let mut view = make_view(stored(alloc)?);
-    view.octets = 7;
-    let (status, lines, line) = verify_of(alloc, &mut view)?;
-    assert_eq!(rt; status, 2);
-    assert!(rt; lines.is_empty());
-    assert!(rt; line == joined(alloc, &[FIRST, b" read fault\n"])?);
+    let ran = verify_disk(alloc, &mut disk)?;
+    let lines = [
+        OTHER,
+        b" digest\njournal.2 checksum 27\njournal.3 hidden 0\n",
+    ];
+    assert!(rt; is(alloc, &ran, 1, &lines, &[])?, "{ran:?}");
     Ok(())
 }
 
+// the first file that is opened fails behind seven octets
 #[test]
 fn a_file_that_fails_is_told_with_its_name(rt: HostRuntime) -> Result<(), Fail> {
     let alloc = rt.alloc();
-    let mut view = make_view(stored(alloc)?);
+    let mut view = view_of(alloc, &mut stored(alloc)?)?;
+    view.failing = 0;
     view.octets = 7;
-    let (status, text, line) = read_of(alloc, &mut view)?;
-    assert_eq!(rt; status, 2);
-    assert!(rt; text.is_empty());
-    assert!(rt; line.as_slice() == b"journal.1 read fault\n".as_slice());
+    let ran = read_of(alloc, &mut view);
+    assert!(rt;
+        is(alloc, &ran, 2, &[], &[b"journal.1 read fault\n"])?,
+        "{ran:?}"
+    );
+    let mut view = view_of(alloc, &mut stored(alloc)?)?;
+    view.failing = 0;
+    view.octets = 7;
+    let ran = verify_of(alloc, &mut view);
+    assert!(rt;
+        is(alloc, &ran, 2, &[], &[FIRST, b" read fault\n"])?,
+        "{ran:?}"
+    );
     Ok(())
 }
 
@@ -198,44 +172,63 @@ fn unused_path(rt: &HostRuntime, test: &str) -> io::Result<String> {
     Ok(path)
 }
 
+fn opened(rt: &HostRuntime, path: &str) -> Result<SystemFolder<HostRuntime>, NoStore> {
+    SystemFolder::open(rt, path)
+}
+
+// what is told of a folder that has no store
+fn no_store(alloc: Global, path: &str, why: &NoStore) -> (u8, Vec<u8>) {
+    let mut diagnostics = ToWrite::new(Vec::new(alloc));
+    let status = report_no_store(alloc, path, why, &mut diagnostics);
+    (status, diagnostics.into_inner())
+}
+
+#[test]
+fn a_folder_without_a_store_is_told(rt: HostRuntime) -> Result<(), Fail> {
+    let alloc = rt.alloc();
+    let path = unused_path(&rt, "none")?;
+    let missing = opened(&rt, path.as_str()).err().ok_or("a folder")?;
+    let (status, line) = no_store(alloc, path.as_str(), &missing);
+    assert_eq!(rt; status, 2);
+    assert!(rt; line.starts_with(path.as_bytes()));
+    fs::create_dir(&rt, path.as_str())?;
+    assert!(rt; matches!(opened(&rt, path.as_str()), Err(NoStore::NoFiles)));
+    fs::remove_dir_all(&rt, path.as_str())?;
+    assert!(rt; opened(&rt, "").is_err());
+    Ok(())
+}
+
+// why a file is not opened
+fn fault_of_open<F: Folder>(alloc: Global, folder: &mut F, name: &FileName) -> Option<DiskFault> {
+    folder.open(alloc, name).err()
+}
+
+// whether a folder tells the names of its files
+fn lists<F: Folder>(alloc: Global, folder: &mut F) -> bool {
+    folder.names(alloc).is_ok()
+}
+
+// a folder of the system with a journal
+fn system_folder(rt: &HostRuntime, path: &str) -> Result<SystemFolder<HostRuntime>, Fail> {
+    let alloc = rt.alloc();
+    fs::create_dir(rt, path)?;
+    let file = format!(in alloc; "{path}/journal.1")?;
+    fs::write(rt, file.as_str(), joined(alloc, &[BATCH, A])?.as_slice())?;
+    Ok(opened(rt, path).ok().ok_or("no store")?)
+}
+
 #[test]
 fn a_folder_of_the_system_is_read(rt: HostRuntime) -> Result<(), Fail> {
     let alloc = rt.alloc();
     let path = unused_path(&rt, "read")?;
-    let missing = SystemFolder::open(&rt, path.as_str())
-        .err()
-        .ok_or("a folder")?;
-    let mut diagnostics = ToWrite::new(Vec::new(alloc));
-    let status = report_no_store(alloc, path.as_str(), &missing, &mut diagnostics);
-    assert_eq!(rt; status, 2);
-    assert!(rt; diagnostics.into_inner().starts_with(path.as_bytes()));
-    fs::create_dir(&rt, path.as_str())?;
-    assert!(rt;
-        matches!(
-            SystemFolder::open(&rt, path.as_str()),
-            Err(NoStore::NoFiles)
-        )
-    );
-    let file = format!(in alloc; "{path}/journal.1")?;
-    fs::write(
-        &rt,
-        file.as_str(),
-        joined(alloc, &[&[1, 22, 0, 0, 0], A])?.as_slice(),
-    )?;
-    let mut folder = SystemFolder::open(&rt, path.as_str())
-        .ok()
-        .ok_or("no store")?;
-    let mut output = ToWrite::new(Vec::new(alloc));
-    let mut diagnostics = ToWrite::new(Vec::new(alloc));
-    let status = read_store(alloc, &mut folder, ALL, &mut output, &mut diagnostics);
-    assert_eq!(rt; status, 0);
-    assert!(rt; output.into_inner().as_slice() == A);
-    let gone = FileName::new(alloc, b"journal.2")?.ok_or("no name")?;
-    assert!(rt; matches!(folder.open(alloc, &gone), Err(DiskFault::Missing)));
+    let mut folder = system_folder(&rt, path.as_str())?;
+    let ran = read_of(alloc, &mut folder);
+    assert!(rt; is(alloc, &ran, 0, &[A], &[])?, "{ran:?}");
+    let fault = fault_of_open(alloc, &mut folder, &named(alloc, b"journal.2")?);
+    assert_eq!(rt; fault, Some(DiskFault::Missing));
     assert!(rt; folder.last_error().is_none());
     fs::remove_dir_all(&rt, path.as_str())?;
-    assert!(rt; folder.names(alloc).is_err());
+    assert!(rt; !lists(alloc, &mut folder));
     assert!(rt; folder.last_error().is_some());
-    assert!(rt; SystemFolder::open(&rt, "").is_err());
     Ok(())
 }

@@ -1,5 +1,6 @@
+use crate::calls::{Change, change_all, named, names_in, octets_from};
 use disk::{Disk, DiskFault, FileName};
-use folder_disk::{FolderDisk, FolderLock, LockFault, LockFile};
+use folder_disk::{FolderDisk, FolderFault, FolderLock, LockFault, LockFile};
 use std::alloc::Global;
 use std::io::{self, ErrorKind};
 use std::os::unix::fs::{MetadataExt, PermissionsExt, symlink};
@@ -16,96 +17,116 @@ fn unused_path(rt: &HostRuntime, test: &str) -> io::Result<String> {
     Ok(path)
 }
 
-fn named(alloc: Global, octets: &[u8]) -> Result<FileName, Fail> {
-    Ok(FileName::new(alloc, octets)?.ok_or("no name")?)
+fn created(rt: &HostRuntime, path: &str) -> Result<FolderDisk<HostRuntime>, FolderFault> {
+    FolderDisk::create(rt, path)
 }
 
-// The octets of a short file from an offset on.
-fn shown<D: Disk>(alloc: Global, disk: &mut D, name: &FileName, at: u64) -> Result<Vec<u8>, Fail> {
-    let mut buf = [0u8; 16];
-    let n = disk.read(name, at, &mut buf)?;
-    Ok(buf[..n].to_vec(alloc)?)
+fn opened(rt: &HostRuntime, path: &str) -> Result<FolderDisk<HostRuntime>, FolderFault> {
+    FolderDisk::open(rt, path)
+}
+
+// whether a file has these octets from an offset on
+fn shows(
+    alloc: Global,
+    disk: &mut FolderDisk<HostRuntime>,
+    name: &[u8],
+    at: u64,
+    octets: &[u8],
+) -> Result<bool, Fail> {
+    Ok(octets_from(alloc, disk, name, at)?.as_slice() == octets)
 }
 
 #[test]
 fn a_file_is_written_cut_renamed_and_removed(rt: HostRuntime) -> Result<(), Fail> {
     let alloc = rt.alloc();
     let path = unused_path(&rt, "calls")?;
-    let mut disk = FolderDisk::create(&rt, path.as_str())?;
-    let one = named(alloc, b"one")?;
-    let two = named(alloc, b"two")?;
-    disk.create(&one)?;
-    assert_eq!(rt; disk.create(&one), Err(DiskFault::Exists));
-    disk.append(&one, b"abc")?;
-    disk.append(&one, b"def")?;
-    disk.sync(&one)?;
-    disk.overwrite(&one, 1, b'x')?;
-    disk.overwrite(&one, 6, b'y')?;
-    disk.cut(&one, 9)?;
-    disk.sync(&one)?;
-    assert_eq!(rt;
-        shown(alloc, &mut disk, &one, 0)?.as_slice(),
-        b"axcdef".as_slice()
-    );
-    disk.cut(&one, 4)?;
-    disk.append(&one, b"z")?;
+    let mut disk = created(&rt, path.as_str())?;
+    let written = [
+        (Change::Create("one"), Ok(())),
+        (Change::Create("one"), Err(DiskFault::Exists)),
+        (Change::Append("one", "abc"), Ok(())),
+        (Change::Append("one", "def"), Ok(())),
+        (Change::Sync("one"), Ok(())),
+        (Change::Overwrite("one", 1, b'x'), Ok(())),
+        (Change::Overwrite("one", 6, b'y'), Ok(())),
+        (Change::Cut("one", 9), Ok(())),
+        (Change::Sync("one"), Ok(())),
+    ];
+    change_all(alloc, &mut disk, &written)?;
+    assert!(rt; shows(alloc, &mut disk, b"one", 0, b"axcdef")?);
+    let cut = [
+        (Change::Cut("one", 4), Ok(())),
+        (Change::Append("one", "z"), Ok(())),
+    ];
+    change_all(alloc, &mut disk, &cut)?;
     for (at, rest) in [
         (1, b"xcdz".as_slice()),
         (5, b"".as_slice()),
         (u64::MAX, b"".as_slice()),
     ] {
-        assert_eq!(rt;
-            shown(alloc, &mut disk, &one, at)?.as_slice(),
-            rest,
-            "at {at}"
-        );
+        assert!(rt; shows(alloc, &mut disk, b"one", at, rest)?, "at {at}");
     }
-    disk.create(&two)?;
-    disk.rename(&one, &two)?;
-    disk.rename(&two, &two)?;
-    disk.sync_names()?;
-    let mut again = FolderDisk::open(&rt, path.as_str())?;
-    assert_eq!(rt;
-        shown(alloc, &mut again, &two, 0)?.as_slice(),
-        b"axcdz".as_slice()
-    );
-    again.append(&two, b"!")?;
-    assert_eq!(rt;
-        shown(alloc, &mut disk, &two, 4)?.as_slice(),
-        b"z!".as_slice()
-    );
-    assert_eq!(rt; disk.names(alloc)?.len(), 1);
-    disk.remove(&two)?;
-    assert_eq!(rt; disk.names(alloc)?.len(), 0);
-    assert_eq!(rt;
-        shown(alloc, &mut again, &two, 4)?.as_slice(),
-        b"z!".as_slice()
-    );
+    let renamed = [
+        (Change::Create("two"), Ok(())),
+        (Change::Rename("one", "two"), Ok(())),
+        (Change::Rename("two", "two"), Ok(())),
+        (Change::SyncNames, Ok(())),
+    ];
+    change_all(alloc, &mut disk, &renamed)?;
+    let mut again = opened(&rt, path.as_str())?;
+    assert!(rt; shows(alloc, &mut again, b"two", 0, b"axcdz")?);
+    change_all(alloc, &mut again, &[(Change::Append("two", "!"), Ok(()))])?;
+    assert!(rt; shows(alloc, &mut disk, b"two", 4, b"z!")?);
+    assert_eq!(rt; names_in(alloc, &mut disk)?.len(), 1);
+    change_all(alloc, &mut disk, &[(Change::Remove("two"), Ok(()))])?;
+    assert_eq!(rt; names_in(alloc, &mut disk)?.len(), 0);
+    assert!(rt; shows(alloc, &mut again, b"two", 4, b"z!")?);
     assert!(rt; disk.last_error().is_none());
     fs::remove_dir_all(&rt, path.as_str())?;
     Ok(())
+}
+
+fn create<D: Disk>(disk: &mut D, name: &FileName) -> Result<(), DiskFault> {
+    disk.create(name)
+}
+
+// why a file is not read
+fn fault_of_read<D: Disk>(disk: &mut D, name: &FileName) -> Option<DiskFault> {
+    disk.read(name, 0, &mut [0u8; 4]).err()
 }
 
 #[test]
 fn a_missing_file_is_missing_to_each_call(rt: HostRuntime) -> Result<(), Fail> {
     let alloc = rt.alloc();
     let path = unused_path(&rt, "missing")?;
-    let mut disk = FolderDisk::create(&rt, path.as_str())?;
-    let one = named(alloc, b"one")?;
-    let two = named(alloc, b"two")?;
-    let mut buf = [0u8; 4];
-    assert_eq!(rt; disk.read(&one, 0, &mut buf), Err(DiskFault::Missing));
-    assert_eq!(rt; disk.append(&one, b"a"), Err(DiskFault::Missing));
-    assert_eq!(rt; disk.overwrite(&one, 0, b'a'), Err(DiskFault::Missing));
-    assert_eq!(rt; disk.cut(&one, 0), Err(DiskFault::Missing));
-    assert_eq!(rt; disk.sync(&one), Err(DiskFault::Missing));
-    assert_eq!(rt; disk.rename(&one, &two), Err(DiskFault::Missing));
-    assert_eq!(rt; disk.remove(&one), Err(DiskFault::Missing));
+    let mut disk = created(&rt, path.as_str())?;
+    let missing = Err(DiskFault::Missing);
+    let fault = fault_of_read(&mut disk, &named(alloc, b"one")?);
+    assert_eq!(rt; fault, Some(DiskFault::Missing));
+    let rows = [
+        (Change::Append("one", "a"), missing),
+        (Change::Overwrite("one", 0, b'a'), missing),
+        (Change::Cut("one", 0), missing),
+        (Change::Sync("one"), missing),
+        (Change::Rename("one", "two"), missing),
+        (Change::Remove("one"), missing),
+    ];
+    change_all(alloc, &mut disk, &rows)?;
     assert!(rt; disk.last_error().is_none());
     fs::remove_dir_all(&rt, path.as_str())?;
-    assert_eq!(rt; disk.create(&one), Err(DiskFault::Failed));
-    assert!(rt; disk.names(alloc).is_err());
-    assert_eq!(rt; disk.sync_names(), Err(DiskFault::Failed));
+    Ok(())
+}
+
+#[test]
+fn a_folder_that_is_gone_fails(rt: HostRuntime) -> Result<(), Fail> {
+    let alloc = rt.alloc();
+    let path = unused_path(&rt, "gone")?;
+    let mut disk = created(&rt, path.as_str())?;
+    fs::remove_dir_all(&rt, path.as_str())?;
+    let failed = Err(DiskFault::Failed);
+    change_all(alloc, &mut disk, &[(Change::Create("one"), failed)])?;
+    assert!(rt; names_in(alloc, &mut disk).is_err());
+    change_all(alloc, &mut disk, &[(Change::SyncNames, failed)])?;
     let told = disk.last_error().ok_or("no error")?;
     assert_eq!(rt; told.error.kind(), ErrorKind::NotFound);
     assert!(rt; told.name.is_none());
@@ -113,12 +134,12 @@ fn a_missing_file_is_missing_to_each_call(rt: HostRuntime) -> Result<(), Fail> {
 }
 
 // Whether the disk last failed by an error of this kind on this file.
-fn is_told(disk: &FolderDisk<HostRuntime>, name: &FileName, kind: ErrorKind) -> bool {
+fn is_told(disk: &FolderDisk<HostRuntime>, name: &[u8], kind: ErrorKind) -> bool {
     let Some(told) = disk.last_error() else {
         return false;
     };
     match &told.name {
-        Some(found) => told.error.kind() == kind && found.as_octets() == name.as_octets(),
+        Some(found) => told.error.kind() == kind && found.as_octets() == name,
         None => false,
     }
 }
@@ -127,31 +148,55 @@ fn is_told(disk: &FolderDisk<HostRuntime>, name: &FileName, kind: ErrorKind) -> 
 fn a_failure_is_told_with_the_file_and_the_cause(rt: HostRuntime) -> Result<(), Fail> {
     let alloc = rt.alloc();
     let path = unused_path(&rt, "failures")?;
-    let mut disk = FolderDisk::create(&rt, path.as_str())?;
-    let link = named(alloc, b"link")?;
-    let within = format!(in alloc; "{path}/link")?;
-    symlink(&rt, "/dev/full", within.as_str())?;
-    assert_eq!(rt; disk.create(&link), Err(DiskFault::Exists));
-    assert_eq!(rt; disk.append(&link, b"abc"), Err(DiskFault::Failed));
-    assert!(rt; is_told(&disk, &link, ErrorKind::InvalidInput));
-    let folder = named(alloc, b"folder")?;
-    let within = format!(in alloc; "{path}/folder")?;
-    fs::create_dir(&rt, within.as_str())?;
-    assert_eq!(rt; disk.append(&folder, b"abc"), Err(DiskFault::Failed));
-    assert!(rt; is_told(&disk, &folder, ErrorKind::IsADirectory));
-    let beyond = named(alloc, b"\xff")?;
-    assert_eq!(rt; disk.create(&beyond), Err(DiskFault::Failed));
-    assert!(rt; is_told(&disk, &beyond, ErrorKind::InvalidFilename));
+    let mut disk = created(&rt, path.as_str())?;
+    let failed = Err(DiskFault::Failed);
+    let link = format!(in alloc; "{path}/link")?;
+    symlink(&rt, "/dev/full", link.as_str())?;
+    let rows = [
+        (Change::Create("link"), Err(DiskFault::Exists)),
+        (Change::Append("link", "abc"), failed),
+    ];
+    change_all(alloc, &mut disk, &rows)?;
+    assert!(rt; is_told(&disk, b"link", ErrorKind::InvalidInput));
+    let folder = format!(in alloc; "{path}/folder")?;
+    fs::create_dir(&rt, folder.as_str())?;
+    change_all(
+        alloc,
+        &mut disk,
+        &[(Change::Append("folder", "abc"), failed)],
+    )?;
+    assert!(rt; is_told(&disk, b"folder", ErrorKind::IsADirectory));
+    assert_eq!(rt; create(&mut disk, &named(alloc, b"\xff")?), failed);
+    assert!(rt; is_told(&disk, b"\xff", ErrorKind::InvalidFilename));
+    fs::remove_dir_all(&rt, path.as_str())?;
+    Ok(())
+}
+
+#[test]
+fn a_folder_that_may_not_be_written_is_told(rt: HostRuntime) -> Result<(), Fail> {
+    let alloc = rt.alloc();
+    let path = unused_path(&rt, "protected")?;
+    let mut disk = created(&rt, path.as_str())?;
     // whom the system lets do anything has no folder that may not be written
     if fs::metadata(&rt, path.as_str())?.uid() != 0 {
         fs::set_permissions(&rt, path.as_str(), fs::Permissions::from_mode(0o500))?;
-        let one = named(alloc, b"one")?;
-        assert_eq!(rt; disk.create(&one), Err(DiskFault::Failed));
-        assert!(rt; is_told(&disk, &one, ErrorKind::PermissionDenied));
+        let row = (Change::Create("one"), Err(DiskFault::Failed));
+        change_all(alloc, &mut disk, &[row])?;
+        assert!(rt; is_told(&disk, b"one", ErrorKind::PermissionDenied));
         fs::set_permissions(&rt, path.as_str(), fs::Permissions::from_mode(0o700))?;
     }
     fs::remove_dir_all(&rt, path.as_str())?;
     Ok(())
+}
+
+// the kind of the error if a folder is not opened
+fn refusal(rt: &HostRuntime, path: &str) -> Option<ErrorKind> {
+    opened(rt, path).err().map(|fault| fault.kind())
+}
+
+// the kind of the error if a folder is not made
+fn refusal_to_create(rt: &HostRuntime, path: &str) -> Option<ErrorKind> {
+    created(rt, path).err().map(|fault| fault.kind())
 }
 
 #[test]
@@ -160,28 +205,20 @@ fn a_folder_is_made_without_its_parent(rt: HostRuntime) -> Result<(), Fail> {
     let path = unused_path(&rt, "folders")?;
     let below = format!(in alloc; "{path}/store/")?;
     for missing in [path.as_str(), below.as_str(), ""] {
-        let opened = FolderDisk::open(&rt, missing).err();
-        assert_eq!(rt; opened.map(|error| error.kind()), Some(ErrorKind::NotFound));
+        assert_eq!(rt; refusal(&rt, missing), Some(ErrorKind::NotFound));
     }
-    let made = FolderDisk::create(&rt, below.as_str()).err();
-    assert_eq!(rt; made.map(|error| error.kind()), Some(ErrorKind::NotFound));
-    drop(FolderDisk::create(&rt, path.as_str())?);
-    drop(FolderDisk::create(&rt, below.as_str())?);
-    drop(FolderDisk::create(&rt, below.as_str())?);
-    drop(FolderDisk::create(&rt, "/")?);
-    drop(FolderDisk::create(&rt, ".")?);
+    assert_eq!(rt;
+        refusal_to_create(&rt, below.as_str()),
+        Some(ErrorKind::NotFound)
+    );
+    for made in [path.as_str(), below.as_str(), below.as_str(), "/", "."] {
+        assert_eq!(rt; refusal_to_create(&rt, made), None, "{made}");
+    }
     let file = format!(in alloc; "{path}/file")?;
     fs::write(&rt, file.as_str(), b"a".as_slice())?;
-    let opened = FolderDisk::open(&rt, file.as_str()).err();
-    assert_eq!(rt;
-        opened.map(|error| error.kind()),
-        Some(ErrorKind::NotADirectory)
-    );
-    let made = FolderDisk::create(&rt, file.as_str()).err();
-    assert_eq!(rt;
-        made.map(|error| error.kind()),
-        Some(ErrorKind::NotADirectory)
-    );
+    let no_folder = Some(ErrorKind::NotADirectory);
+    assert_eq!(rt; refusal(&rt, file.as_str()), no_folder);
+    assert_eq!(rt; refusal_to_create(&rt, file.as_str()), no_folder);
     fs::remove_dir_all(&rt, path.as_str())?;
     Ok(())
 }
@@ -190,39 +227,42 @@ fn a_folder_is_made_without_its_parent(rt: HostRuntime) -> Result<(), Fail> {
 fn as_many_files_as_there_are_can_be_used(rt: HostRuntime) -> Result<(), Fail> {
     let alloc = rt.alloc();
     let path = unused_path(&rt, "many")?;
-    let mut disk = FolderDisk::create(&rt, path.as_str())?;
+    let mut disk = created(&rt, path.as_str())?;
     for i in 0..520u16 {
         let name = format!(in alloc; "file.{i}")?;
-        disk.create(&named(alloc, name.as_bytes())?)?;
+        change_all(alloc, &mut disk, &[(Change::Create(name.as_str()), Ok(()))])?;
     }
     for i in 0..520u16 {
         let name = format!(in alloc; "file.{i}")?;
-        let name = named(alloc, name.as_bytes())?;
-        assert_eq!(rt; shown(alloc, &mut disk, &name, 0)?.len(), 0);
+        assert!(rt; shows(alloc, &mut disk, name.as_bytes(), 0, b"")?);
     }
-    assert_eq!(rt; disk.names(alloc)?.len(), 520);
+    assert_eq!(rt; names_in(alloc, &mut disk)?.len(), 520);
     fs::remove_dir_all(&rt, path.as_str())?;
     Ok(())
+}
+
+fn taken(rt: &HostRuntime, path: &str, lock: LockFile) -> Result<FolderLock, LockFault> {
+    FolderLock::take(rt, path, lock)
 }
 
 #[test]
 fn a_lock_is_held_by_one_value(rt: HostRuntime) -> Result<(), Fail> {
     let path = unused_path(&rt, "locks")?;
     for missing in ["", path.as_str()] {
-        let found = FolderLock::take(&rt, missing, LockFile::Writing);
+        let found = taken(&rt, missing, LockFile::Writing);
         assert!(rt;
             matches!(found, Err(LockFault::Failed(error)) if error.kind() == ErrorKind::NotFound)
         );
     }
-    drop(FolderDisk::create(&rt, path.as_str())?);
-    let writing = FolderLock::take(&rt, path.as_str(), LockFile::Writing)?;
-    let compaction = FolderLock::take(&rt, path.as_str(), LockFile::Compaction)?;
+    drop(created(&rt, path.as_str())?);
+    let writing = taken(&rt, path.as_str(), LockFile::Writing)?;
+    let compaction = taken(&rt, path.as_str(), LockFile::Compaction)?;
     for lock in [LockFile::Writing, LockFile::Compaction] {
-        let found = FolderLock::take(&rt, path.as_str(), lock);
+        let found = taken(&rt, path.as_str(), lock);
         assert!(rt; matches!(found, Err(LockFault::Held)), "at {lock:?}");
     }
     drop(writing);
-    drop(FolderLock::take(&rt, path.as_str(), LockFile::Writing)?);
+    drop(taken(&rt, path.as_str(), LockFile::Writing)?);
     drop(compaction);
     fs::remove_dir_all(&rt, path.as_str())?;
     Ok(())

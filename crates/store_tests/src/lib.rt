@@ -3,6 +3,8 @@
 #![tactic(auto)]
 
 #[cfg(test)]
+mod calls;
+#[cfg(test)]
 mod checksums;
 #[cfg(test)]
 mod disks;
@@ -15,8 +17,14 @@ mod folders;
 #[cfg(test)]
 mod journals;
 #[cfg(test)]
+mod older;
+#[cfg(test)]
 mod reading;
 #[cfg(test)]
 mod records;
 #[cfg(test)]
+mod stores;
+#[cfg(test)]
 mod upkeep;
+#[cfg(test)]
+mod views;

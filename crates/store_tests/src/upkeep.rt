@@ -2,13 +2,14 @@
 
 mod compacting;
 
+use crate::calls::{joined, overwrite, put};
+use crate::views::view_of;
 use archive_text::ArchiveFault;
-use disk::{Disk, DiskFault, FileName, MemoryDisk};
-use octet_devices::FromRead;
+use disk::{Disk, MemoryDisk};
 use record_store::JournalDamage;
 use sha2::{Digest, Sha256};
 use std::alloc::{AllocError, Global};
-use std::io::Cursor;
+use std::ops::RangeInclusive;
 use std::test::Fail;
 use store_reading::{FileFault, Folder, ReadFault};
 use store_upkeep::{DamagedFile, verify};
@@ -19,61 +20,6 @@ const UNDATED: &[u8] = b"19 <13>1 - h a - - - x";
 const LATE: &[u8] = b"45 <14>1 2024-03-01T00:00:00.000000Z h a - - - w";
 
 const DAY: &[u8] = b"2024-02-29";
-
-// The files of a disk, each opened whole.
-#[derive(Drop)]
-struct View {
-    files: Vec<(FileName, Vec<u8>)>,
-}
-
-impl Folder for View {
-    ghost use Rattle.std.specs.Prelude.{None};
-
-    type File = FromRead<Cursor<Vec<u8>>>;
-
-    ghost files = { λ _ _. None };
-
-    ghost tells = { λ _. ⊥ };
-
-    ghost has_failed = { λ _. Unit {0} };
-
-    fn names(&mut self, alloc: Global) -> Result<Vec<FileName>, DiskFault> {
-        let mut names = Vec::new(alloc);
-        for (name, _) in &self.files {
-            names.push(name.copy(alloc)?)?;
-        }
-        Ok(names)
-    }
-
-    fn open(&mut self, alloc: Global, name: &FileName) -> Result<Self::File, DiskFault> {
-        for (other, octets) in &self.files {
-            if other.as_octets() == name.as_octets() {
-                return Ok(FromRead::new(Cursor::new(octets.as_slice().to_vec(alloc)?)));
-            }
-        }
-        Err(DiskFault::Missing)
-    }
-}
-
-// The view of what a disk shows.
-fn view_of<D: Disk>(alloc: Global, disk: &mut D) -> Result<View, Fail> {
-    let mut files = Vec::new(alloc);
-    for name in disk.names(alloc)? {
-        let mut octets = vec![in alloc; 0u8; 4096]?;
-        let n = disk.read(&name, 0, &mut octets)?;
-        octets.truncate(n);
-        files.push((name, octets))?;
-    }
-    Ok(View { files })
-}
-
-fn put<D: Disk>(alloc: Global, disk: &mut D, name: &[u8], octets: &[u8]) -> Result<(), Fail> {
-    let name = FileName::new(alloc, name)?.ok_or("no name")?;
-    disk.create(&name)?;
-    disk.append(&name, octets)?;
-    disk.sync(&name)?;
-    Ok(())
-}
 
 // `DAY.HEX.archive`
 fn segment_name(alloc: Global, day: &[u8], octets: &[u8]) -> Result<Vec<u8>, AllocError> {
@@ -95,7 +41,7 @@ fn put_segment<D: Disk>(
     octets: &[u8],
 ) -> Result<(), Fail> {
     let name = segment_name(alloc, day, octets)?;
-    put(alloc, disk, &name, octets)
+    put(alloc, disk, &name, &[octets])
 }
 
 // the entry of a letter
@@ -105,32 +51,46 @@ fn entry(alloc: Global, letter: u8) -> Result<Vec<u8>, AllocError> {
     Ok(text)
 }
 
+// the entries of these letters
+fn entries(alloc: Global, letters: RangeInclusive<u8>) -> Result<Vec<u8>, AllocError> {
+    let mut text = Vec::new(alloc);
+    for letter in letters {
+        text.extend_from_slice(&entry(alloc, letter)?)?;
+    }
+    Ok(text)
+}
+
 // A folder of so many segments of a day, each with two entries, one of them that of the next; of
 // segments of other days; and of a journal with two batches and an end that is torn.
 fn stored(alloc: Global, segments: u8) -> Result<MemoryDisk, Fail> {
     let mut disk = MemoryDisk::new(alloc);
     for letter in b'a'..b'a'.saturating_add(segments) {
-        let mut text = entry(alloc, letter)?;
-        text.extend_from_slice(&entry(alloc, letter.saturating_add(1))?)?;
+        let text = entries(alloc, letter..=letter.saturating_add(1))?;
         put_segment(alloc, &mut disk, DAY, &text)?;
     }
     put_segment(alloc, &mut disk, b"2024-03-01", LATE)?;
     put_segment(alloc, &mut disk, b"undated", UNDATED)?;
-    put(alloc, &mut disk, b"refused", b"x")?;
-    let mut batches = b"\x01\x16\0\0\0".to_vec(alloc)?;
-    batches.extend_from_slice(UNDATED)?;
-    batches.extend_from_slice(b"\x01\0\0\0\0\xfe\x09\0\0\0x")?;
+    put(alloc, &mut disk, b"refused", &[b"x"])?;
+    let batches = [b"\x01\x16\0\0\0", UNDATED, b"\x01\0\0\0\0\xfe\x09\0\0\0x"];
     put(alloc, &mut disk, b"journal.7", &batches)?;
-    disk.sync_names()?;
     Ok(disk)
 }
 
+fn verify_all<F: Folder>(
+    alloc: Global,
+    folder: &mut F,
+    damaged: &mut Vec<DamagedFile>,
+) -> Result<(), ReadFault> {
+    verify(alloc, folder, damaged)
+}
+
+// what is answered if a folder is verified, and the files that are told
 fn damage_in(
     alloc: Global,
     disk: &mut MemoryDisk,
 ) -> Result<(Result<(), ReadFault>, Vec<DamagedFile>), Fail> {
     let mut damaged = Vec::new(alloc);
-    let answer = verify(alloc, &mut view_of(alloc, disk)?, &mut damaged);
+    let answer = verify_all(alloc, &mut view_of(alloc, disk)?, &mut damaged);
     Ok((answer, damaged))
 }
 
@@ -151,32 +111,31 @@ fn a_whole_folder_has_no_damage(rt: HostRuntime) -> Result<(), Fail> {
     Ok(())
 }
 
+// whether a segment of a day, with the name of these octets and other ones in it, is the one that is told
+fn is_told(
+    alloc: Global,
+    day: &[u8],
+    octets: &[u8],
+    within: &[u8],
+    damage: FileFault,
+) -> Result<bool, Fail> {
+    let mut disk = stored(alloc, 0)?;
+    let name = segment_name(alloc, day, octets)?;
+    put(alloc, &mut disk, &name, &[within])?;
+    let (answer, damaged) = damage_in(alloc, &mut disk)?;
+    Ok(answer.is_ok() && is_only(&damaged, &name, damage))
+}
+
 #[test]
 fn each_kind_of_damage_is_told(rt: HostRuntime) -> Result<(), Fail> {
     let alloc = rt.alloc();
-    let mut disk = stored(alloc, 0)?;
-    let name = segment_name(alloc, DAY, b"")?;
-    put(alloc, &mut disk, &name, &entry(alloc, b'a')?)?;
-    let (answer, damaged) = damage_in(alloc, &mut disk)?;
-    assert!(rt; answer.is_ok());
-    assert!(rt; is_only(&damaged, &name, FileFault::Digest));
-
-    let mut disk = stored(alloc, 0)?;
-    let mut text = entry(alloc, b'a')?;
-    text.extend_from_slice(LATE)?;
-    let name = segment_name(alloc, DAY, &text)?;
-    put(alloc, &mut disk, &name, &text)?;
-    let (_, damaged) = damage_in(alloc, &mut disk)?;
-    assert!(rt; is_only(&damaged, &name, FileFault::OtherDay { at: 48 }));
-
-    let mut disk = stored(alloc, 0)?;
-    text.push(b'4')?;
-    let name = segment_name(alloc, b"undated", &text)?;
-    put(alloc, &mut disk, &name, UNDATED)?;
-    disk.append(&FileName::new(alloc, &name)?.ok_or("no name")?, b"4")?;
-    let (_, damaged) = damage_in(alloc, &mut disk)?;
+    let one = entry(alloc, b'a')?;
+    assert!(rt; is_told(alloc, DAY, b"", &one, FileFault::Digest)?);
+    let days = joined(alloc, &[&one, LATE])?;
+    assert!(rt; is_told(alloc, DAY, &days, &days, FileFault::OtherDay { at: 48 })?);
+    let torn = joined(alloc, &[UNDATED, b"4"])?;
     let fault = FileFault::Archive(ArchiveFault::BadFrame { at: 23 });
-    assert!(rt; is_only(&damaged, &name, fault));
+    assert!(rt; is_told(alloc, b"undated", &days, &torn, fault)?);
     Ok(())
 }
 
@@ -184,8 +143,7 @@ fn each_kind_of_damage_is_told(rt: HostRuntime) -> Result<(), Fail> {
 fn a_batch_that_is_damaged_is_told(rt: HostRuntime) -> Result<(), Fail> {
     let alloc = rt.alloc();
     let mut disk = stored(alloc, 0)?;
-    let name = FileName::new(alloc, b"journal.7")?.ok_or("no name")?;
-    disk.overwrite(&name, 8, b'!')?;
+    overwrite(alloc, &mut disk, b"journal.7", 8, b'!')?;
     let (answer, damaged) = damage_in(alloc, &mut disk)?;
     assert!(rt; answer.is_ok());
     assert!(rt;

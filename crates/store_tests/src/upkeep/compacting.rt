@@ -1,33 +1,28 @@
 //! Folders in memory are compacted.
 
-use super::{DAY, LATE, entry, put, put_segment, segment_name, stored, view_of};
-use archive_sets::InRange;
-use disk::{Disk, FileName, Fuse, MemoryDisk};
-use octet_devices::ToWrite;
+use super::{DAY, LATE, damage_in, entries, entry, put_segment, segment_name, stored};
+use crate::calls::{crash, fused, names_in, put};
+use crate::views::{ALL, view_of, written};
+use disk::{FileName, MemoryDisk};
 use std::alloc::Global;
 use std::test::Fail;
-use store_reading::{FileFault, read};
-use store_upkeep::{CompactFault, SEGMENTS_MAX, WholeFiles, compact, verify};
+use store_reading::FileFault;
+use store_upkeep::{CompactFault, SEGMENTS_MAX, StreamDisk, WholeFiles, compact};
 
 // more than a file of these tests has
 const FILE_MAX: usize = 4096;
 
 // the archive of what a folder holds
 fn archive_of(alloc: Global, disk: &mut MemoryDisk) -> Result<Vec<u8>, Fail> {
-    let range = InRange {
-        from: None,
-        to: None,
-        undated: true,
-    };
-    let mut output = ToWrite::new(Vec::new(alloc));
-    read(alloc, &mut view_of(alloc, disk)?, range, &mut output)?;
-    Ok(output.into_inner())
+    let (answer, text) = written(alloc, &mut view_of(alloc, disk)?, ALL);
+    answer?;
+    Ok(text)
 }
 
 // the names of the segments of the day that has many
 fn segments_in(alloc: Global, disk: &mut MemoryDisk) -> Result<Vec<FileName>, Fail> {
     let mut found = Vec::new(alloc);
-    for name in disk.names(alloc)? {
+    for name in names_in(alloc, disk)? {
         if name.as_octets().starts_with(DAY) {
             found.push(name)?;
         }
@@ -37,9 +32,12 @@ fn segments_in(alloc: Global, disk: &mut MemoryDisk) -> Result<Vec<FileName>, Fa
 
 // whether no file of a folder is damaged
 fn is_whole(alloc: Global, disk: &mut MemoryDisk) -> Result<bool, Fail> {
-    let mut damaged = Vec::new(alloc);
-    verify(alloc, &mut view_of(alloc, disk)?, &mut damaged)?;
-    Ok(damaged.is_empty())
+    let (answer, damaged) = damage_in(alloc, disk)?;
+    Ok(answer.is_ok() && damaged.is_empty())
+}
+
+fn compact_all<S: StreamDisk>(alloc: Global, files: &mut S) -> Result<(), CompactFault> {
+    compact(alloc, files)
 }
 
 // compacts a folder, by at most so many calls
@@ -48,8 +46,8 @@ fn compacted(
     disk: MemoryDisk,
     calls: u64,
 ) -> Result<(MemoryDisk, Result<(), CompactFault>), Fail> {
-    let mut files = WholeFiles::new(alloc, Fuse::new(disk, calls));
-    let answer = compact(alloc, &mut files);
+    let mut files = WholeFiles::new(alloc, fused(disk, calls));
+    let answer = compact_all(alloc, &mut files);
     Ok((files.into_inner().into_inner(), answer))
 }
 
@@ -61,7 +59,7 @@ fn the_segments_of_a_day_are_joined(rt: HostRuntime) -> Result<(), Fail> {
     let (mut disk, answer) = compacted(alloc, disk, u64::MAX)?;
     assert!(rt; answer.is_ok());
     assert_eq!(rt; segments_in(alloc, &mut disk)?.len(), 1);
-    assert_eq!(rt; disk.names(alloc)?.len(), 5);
+    assert_eq!(rt; names_in(alloc, &mut disk)?.len(), 5);
     assert!(rt; archive_of(alloc, &mut disk)? == before);
     assert!(rt; is_whole(alloc, &mut disk)?);
     Ok(())
@@ -81,10 +79,7 @@ fn few_segments_stay(rt: HostRuntime) -> Result<(), Fail> {
 fn a_segment_that_has_all_stays(rt: HostRuntime) -> Result<(), Fail> {
     let alloc = rt.alloc();
     let mut disk = stored(alloc, 9)?;
-    let mut text = Vec::new(alloc);
-    for letter in b'a'..=b'j' {
-        text.extend_from_slice(&entry(alloc, letter)?)?;
-    }
+    let text = entries(alloc, b'a'..=b'j')?;
     put_segment(alloc, &mut disk, DAY, &text)?;
     let (mut disk, answer) = compacted(alloc, disk, u64::MAX)?;
     assert!(rt; answer.is_ok());
@@ -100,7 +95,7 @@ fn nothing_of_a_day_with_a_damaged_segment_is_removed(rt: HostRuntime) -> Result
     let alloc = rt.alloc();
     let mut disk = stored(alloc, 9)?;
     let damaged = segment_name(alloc, DAY, LATE)?;
-    put(alloc, &mut disk, &damaged, &entry(alloc, b'k')?)?;
+    put(alloc, &mut disk, &damaged, &[&entry(alloc, b'k')?])?;
     let (mut disk, answer) = compacted(alloc, disk, u64::MAX)?;
     match answer {
         Err(CompactFault::Damaged { name, damage }) => {
@@ -126,7 +121,7 @@ fn a_crash_leaves_the_same_set(rt: HostRuntime) -> Result<(), Fail> {
             _ => (FILE_MAX, None),
         };
         let (disk, _stopped) = compacted(alloc, stored(alloc, 9)?, calls)?;
-        let mut disk = disk.crash(kept, octet, calls % 2 == 0)?;
+        let mut disk = crash(disk, kept, octet, calls % 2 == 0)?;
         assert!(rt; archive_of(alloc, &mut disk)? == before, "at {calls}");
     }
     Ok(())
