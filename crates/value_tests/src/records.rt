@@ -1,87 +1,109 @@
 //! Records, made and compared.
+
 use std::alloc::Global;
 use std::test::Fail;
-use syslog_value::{Facility, Instant, Message, Priority, Record, Severity, StructuredData, Word};
+use syslog_value::{Instant, Message, Priority, Record, StructuredData, Word};
 
-#[test]
-fn a_record_of_a_priority_and_a_message_has_nil_fields(rt: HostRuntime) -> Result<(), Fail> {
-    let priority = Priority::new(Facility::Local4, Severity::Notice);
-    let hello = Message::any(b"hello".to_vec(rt.alloc())?)
-        .ok()
-        .ok_or("refused")?;
-    let structured = StructuredData::empty(rt.alloc());
-    let record = Record::new(priority, None, None, None, None, None, structured, hello);
-    assert_eq!(rt; record.priority().value(), 165);
-    assert_eq!(rt; record.message().octets(), b"hello".as_slice());
-    assert!(rt; record.instant().is_none() && record.hostname().is_none());
-    assert!(rt; record.app_name().is_none() && record.proc_id().is_none());
-    assert!(rt; record.msg_id().is_none() && record.structured().elements().is_empty());
-    Ok(())
+/// The fields of a record without elements and without a mark.
+#[derive(Clone, Copy, PartialEq)]
+struct Fields<'a> {
+    priority: u8,
+    micros: Option<i64>,
+    hostname: Option<&'a [u8]>,
+    app_name: Option<&'a [u8]>,
+    proc_id: Option<&'a [u8]>,
+    msg_id: Option<&'a [u8]>,
+    message: &'a [u8],
 }
 
-fn host_and_app(alloc: Global, host: &[u8]) -> Result<Record, Fail> {
-    let (host, app) = (Word::new(alloc, host)?, Word::new(alloc, b"su")?);
+const HELLO: Fields<'static> = Fields {
+    priority: 165,
+    micros: None,
+    hostname: None,
+    app_name: None,
+    proc_id: None,
+    msg_id: None,
+    message: b"hello",
+};
+
+const HOST_AND_APP: Fields<'static> = Fields {
+    priority: 23,
+    micros: Some(1_061_727_255_000_003),
+    hostname: Some(b"h"),
+    app_name: Some(b"su"),
+    proc_id: None,
+    msg_id: None,
+    message: b"",
+};
+
+const PROC_AND_MESSAGE_ID: Fields<'static> = Fields {
+    priority: 0,
+    micros: None,
+    hostname: None,
+    app_name: None,
+    proc_id: Some(b"8710"),
+    msg_id: Some(b"ID47"),
+    message: b"",
+};
+
+fn word<const N: usize>(alloc: Global, octets: Option<&[u8]>) -> Result<Option<Word<N>>, Fail> {
+    match octets {
+        Some(octets) => Ok(Some(Word::new(alloc, octets)?)),
+        None => Ok(None),
+    }
+}
+
+/// The record of these fields.
+fn record_of(alloc: Global, fields: Fields<'_>) -> Result<Record, Fail> {
+    let message = Message::any(fields.message.to_vec(alloc)?)
+        .ok()
+        .ok_or("octets with the mark")?;
     Ok(Record::new(
-        Priority::new(Facility::Mail, Severity::Debug),
-        Instant::from_micros(1_061_727_255_000_003),
-        Some(host),
-        Some(app),
-        None,
-        None,
+        Priority::from_value(fields.priority).ok_or("no priority")?,
+        fields.micros.and_then(Instant::from_micros),
+        word(alloc, fields.hostname)?,
+        word(alloc, fields.app_name)?,
+        word(alloc, fields.proc_id)?,
+        word(alloc, fields.msg_id)?,
         StructuredData::empty(alloc),
-        Message::empty(alloc),
+        message,
     ))
 }
 
+/// The fields of a record.
+fn fields_of(record: &Record) -> Fields<'_> {
+    Fields {
+        priority: record.priority().value(),
+        micros: record.instant().map(Instant::micros),
+        hostname: record.hostname().map(Word::bytes),
+        app_name: record.app_name().map(Word::bytes),
+        proc_id: record.proc_id().map(Word::bytes),
+        msg_id: record.msg_id().map(Word::bytes),
+        message: record.message().octets(),
+    }
+}
+
+/// Whether a record of these fields has them, and neither elements nor a mark.
+fn come_back(alloc: Global, fields: Fields<'_>) -> Result<bool, Fail> {
+    let record = record_of(alloc, fields)?;
+    let bare = record.structured().elements().is_empty() && !record.message().has_mark();
+    Ok(bare && fields_of(&record) == fields)
+}
+
 #[test]
-fn host_and_app_come_back(rt: HostRuntime) -> Result<(), Fail> {
-    let record = host_and_app(rt.alloc(), b"h")?;
-    assert_eq!(rt; record.priority().value(), 23);
-    assert_eq!(rt;
-        record.instant().map(Instant::micros),
-        Some(1_061_727_255_000_003)
-    );
-    let host = record.hostname().map(Word::bytes).ok_or("nil")?;
-    let app = record.app_name().map(Word::bytes).ok_or("nil")?;
-    assert_eq!(rt; host, b"h".as_slice());
-    assert_eq!(rt; app, b"su".as_slice());
-    assert!(rt; record.proc_id().is_none() && !record.message().has_mark());
+fn the_fields_of_a_record_come_back(rt: HostRuntime) -> Result<(), Fail> {
+    assert!(rt; come_back(rt.alloc(), HELLO)?);
+    assert!(rt; come_back(rt.alloc(), HOST_AND_APP)?);
+    assert!(rt; come_back(rt.alloc(), PROC_AND_MESSAGE_ID)?);
     Ok(())
 }
 
 #[test]
-fn proc_and_message_id_come_back(rt: HostRuntime) -> Result<(), Fail> {
-    let proc = Word::new(rt.alloc(), b"8710")?;
-    let msg = Word::new(rt.alloc(), b"ID47")?;
-    let record = Record::new(
-        Priority::new(Facility::Kern, Severity::Emergency),
-        None,
-        None,
-        None,
-        Some(proc),
-        Some(msg),
-        StructuredData::empty(rt.alloc()),
-        Message::empty(rt.alloc()),
-    );
-    let proc = record.proc_id().map(Word::bytes).ok_or("nil")?;
-    let msg = record.msg_id().map(Word::bytes).ok_or("nil")?;
-    assert_eq!(rt; proc, b"8710".as_slice());
-    assert_eq!(rt; msg, b"ID47".as_slice());
-    Ok(())
-}
-
-#[test]
-fn a_copy_equals_its_source(rt: HostRuntime) -> Result<(), Fail> {
-    let record = host_and_app(rt.alloc(), b"h")?;
-    let copy = record.copy(rt.alloc())?;
-    assert!(rt; record == copy);
-    Ok(())
-}
-
-#[test]
-fn another_host_makes_another_record(rt: HostRuntime) -> Result<(), Fail> {
-    let record = host_and_app(rt.alloc(), b"h")?;
-    let other = host_and_app(rt.alloc(), b"H")?;
-    assert!(rt; record != other);
+fn a_record_equals_its_copy_and_none_of_another_host(rt: HostRuntime) -> Result<(), Fail> {
+    let record = record_of(rt.alloc(), HOST_AND_APP)?;
+    assert!(rt; record == record.copy(rt.alloc())?);
+    let mut fields = HOST_AND_APP;
+    fields.hostname = Some(b"H");
+    assert!(rt; record != record_of(rt.alloc(), fields)?);
     Ok(())
 }
