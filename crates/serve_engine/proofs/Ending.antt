@@ -9,7 +9,8 @@ use Rattle.syslog_collect.specs.declared.fault.CollectFault.TheVariants as fault
 use Rattle.collect_engine.specs.Receiving.{IfRefused, ReceivesAs}
 use Rattle.collect_engine.specs.declared.receiving.Received.{Received}
 use Rattle.collect_engine.specs.declared.receiving.Received.TheVariants as received
-use Rattle.serve_engine.specs.Events.{ending_of}
+use Rattle.serve_engine.specs.Events.{ending_of, turn_after}
+use Rattle.serve_engine.specs.declared.turn.Turn.TheVariants.{On}
 
 -- as what an end is received
 pub ended_as : {U : Type 0} (way : FrameReading) (h : History) (w v : ℕ → ℕ) (c : ℕ) (answer : Result U CollectFault)
@@ -24,6 +25,25 @@ ended_as way h w v c (Err fault.AlreadyOpen) is one same = absurd is
 ended_as way h w v c (Err fault.TooManyOpen) is one same = absurd is
 ended_as way h w v c (Err fault.ConnFailed) is one same = absurd is
 ended_as way h w v c (Err fault.StreamTooLong) is one same = absurd is
+
+-- no memory is wanted
+pub never_memory : {U : Type 0} (answer : Result U CollectFault) → ¬ (ending_of answer ≡ received.Memory)
+never_memory (Ok u) is = absurd (cc)
+never_memory (Err (fault.Unterminated start)) is = absurd (cc)
+never_memory (Err (fault.Memory used)) is = absurd (cc)
+never_memory (Err fault.NotOpen) is = absurd (cc)
+never_memory (Err fault.Unreleased) is = absurd (cc)
+never_memory (Err fault.AlreadyOpen) is = absurd (cc)
+never_memory (Err fault.TooManyOpen) is = absurd (cc)
+never_memory (Err fault.ConnFailed) is = absurd (cc)
+never_memory (Err fault.StreamTooLong) is = absurd (cc)
+
+-- so it goes on
+pub end_goes_on : (r : Received) → ¬ (r ≡ received.Memory) → On ≡ turn_after r 1
+end_goes_on received.Accepted never = refl
+end_goes_on (received.Unterminated start) never = refl
+end_goes_on received.Refused never = refl
+end_goes_on received.Memory never = absurd (never refl)
 
 -- what is so is so where it is refused
 pub if_refused : (r : Received) (P : Type 0) → P → IfRefused r P

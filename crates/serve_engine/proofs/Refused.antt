@@ -1,7 +1,7 @@
 -- Frames that are kept as an observer is told of them.
 use Rattle.std.proofs.Common.{◌≡◌, ℕ, ◌+◌, List, [], ◌∷◌, ◌++◌, length, take, drop, ap, refl, sym, ◌∙◌, subst, inl, inr}
 use Rattle.std.proofs.Common.{append_assoc, arith, length-append}
-use Rattle.std.specs.Prelude.{◌⊎◌, Bool, false, Option, Some, None, IsSomeAnd}
+use Rattle.std.specs.Prelude.{◌⊎◌, Bool, Option, Some, None, IsSomeAnd}
 use Rattle.std.proofs.lemmas.List.{append-nil, append_cancel_left, take-append-drop}
 use Rattle.archive_text.specs.Entries.{Entry}
 use Rattle.octet_devices.specs.Device.{OutputState}
@@ -20,14 +20,16 @@ use Rattle.syslog_collect.specs.declared.outcome.Outcome.TheVariants.{BadCount}
 use Rattle.collect_engine.specs.Receiving.{HearsReceived, IfNotMemory, Logged, ReceivesAs}
 use Rattle.collect_engine.specs.declared.receiving.Received.{Received}
 use Rattle.collect_engine.specs.declared.receiving.Received.TheVariants as received
-use Rattle.serve_engine.specs.Counts.{CountsBroken, octets_counted}
+use Rattle.serve_engine.specs.Counts.{CountsBroken, CountsDropped, broken_counted, octets_counted}
 use Rattle.serve_engine.specs.Events.{IsAccepted, Manner}
 use Rattle.serve_engine.specs.Refusals.{KeepsEach, KeepsFrames, KeepsNext, KeepsNoFrame, KeepsPiece}
-use Rattle.serve_engine.specs.Refusals.{KeepsSilent, come, kept_in}
+use Rattle.serve_engine.specs.Refusals.{CountsLost, KeepsNone, come, kept_in}
 use Rattle.serve_engine.specs.declared.counts.ServeCounts.{ServeCounts}
 use Rattle.serve_engine.specs.declared.report.Report.{Report}
+use Rattle.serve_engine.specs.declared.serve_end.ServeEnd.{ServeEnd}
 use Rattle.serve_engine.specs.declared.turn.Turn.{Turn}
-use Rattle.serve_engine.proofs.Counted.{broken_one, broken_twice, dropped_none}
+use Rattle.serve_engine.specs.declared.turn.Turn.TheVariants.{On, End}
+use Rattle.serve_engine.proofs.Counted.{broken_one, broken_twice}
 
 -- what an observer is told is told of a part of it
 one_part : {O P : Type 0} (t : P → Outcome → Option (List ℕ) → P → Type 0) (m : O → P) (x y : O) (fs : List (List ℕ))
@@ -294,17 +296,13 @@ kept_behind c octets h w waits os x y none bad (n, told, heard, same) = at (stre
         (hears.fresh ++ hears.waiting_now) (append-nil hears.handled ∙ handled ∙ sym now) in
         silent x y hears.fresh outs (first_empty hears.fresh hears.waiting_now more) hears.told
 
--- nothing was kept where nothing changed
-still_silent : (y : OutputState × ServeCounts) → KeepsSilent false y y
-still_silent y = ((refl, omega arith), dropped_none y.1 y.1 refl)
-
 -- what was kept of a piece, by what was accepted of it
 pub kept_frames : {way : Manner} {before here : List AcceptedEvent} {c : ℕ} {octets : List ℕ} {lost : Bool}
     {turn : Turn} (taken : IsAccepted way before (Piece c octets) here lost turn) (x y : OutputState × ServeCounts)
     → HearsReceived KeepsNext (stream_of c (history_of before).streams) octets (taken.is.0 c) (taken.is.1 c)
-    taken.outcomes x y → KeepsFrames taken x y
-kept_frames {way = way} {before = before} {c = c} {octets = octets} taken x y heard = record {
-  told = (y, heard, still_silent y);
+    taken.outcomes x y → CountsLost taken.received turn y y → KeepsFrames taken x y
+kept_frames {way = way} {before = before} {c = c} {octets = octets} taken x y heard lost = record {
+  told = (y, heard, lost);
   whole = λ own. by_answer taken.received taken.own own taken.is.4;
   passed = λ own accepted. behind taken.received taken.own own accepted taken.is.4;
 }
@@ -330,14 +328,34 @@ kept_frames {way = way} {before = before} {c = c} {octets = octets} taken x y he
     behind received.Refused own is accepted part = absurd (cc)
     behind received.Memory own is accepted part = absurd (cc)
 
--- and where memory was wanted for it, and then it was told that its connection is lost
+-- nothing is lost of it
+pub none_lost : (r : Received) (turn : Turn) (y : OutputState × ServeCounts)
+    → (r ≡ received.Accepted) ⊎ ((start : ℕ) × (r ≡ received.Unterminated start)) → CountsLost r turn y y
+none_lost r turn y (inl is) = subst (λ (q : Received). CountsLost q turn y y) (sym is) refl
+none_lost r turn y (inr (start, is)) = subst (λ (q : Received). CountsLost q turn y y) (sym is) refl
+
+pub refused_none_lost : (r : Received) (turn : Turn) (y : OutputState × ServeCounts) → r ≡ received.Refused
+    → CountsLost r turn y y
+refused_none_lost r turn y is = subst (λ (q : Received). CountsLost q turn y y) (sym is) refl
+
+pub ended_none_lost : (r : Received) (end : ServeEnd) (y : OutputState × ServeCounts) → r ≡ received.Memory
+    → CountsLost r (End end) y y
+ended_none_lost r end y is = subst (λ (q : Received). CountsLost q (End end) y y) (sym is) refl
+
+-- its connection is
+pub one_lost : (r : Received) (turn : Turn) (y z : OutputState × ServeCounts) → r ≡ received.Memory → turn ≡ On
+    → KeepsNone y z → CountsDropped (broken_counted y.1) z.1 → CountsLost r turn y z
+one_lost r turn y z is on kept counts = subst (λ (q : Received). CountsLost q turn y z) (sym is)
+    (subst (λ (t : Turn). CountsLost received.Memory t y z) (sym on) (kept, counts))
+
+-- and where memory was wanted for it, and its connection is lost
 pub kept_starved : {way : Manner} {before here : List AcceptedEvent} {c : ℕ} {octets : List ℕ} {lost : Bool}
     {turn : Turn} (taken : IsAccepted way before (Piece c octets) here lost turn) (x y z : OutputState × ServeCounts)
     → taken.received ≡ received.Memory
     → HearsReceived KeepsNext (stream_of c (history_of before).streams) octets (taken.is.0 c) (taken.is.1 c)
-    taken.outcomes x y → KeepsSilent false y z → KeepsFrames taken x z
-kept_starved {before = before} {c = c} {octets = octets} taken x y z memory heard silent = record {
-  told = (y, heard, silent);
+    taken.outcomes x y → CountsLost taken.received turn y z → KeepsFrames taken x z
+kept_starved {before = before} {c = c} {octets = octets} taken x y z memory heard lost = record {
+  told = (y, heard, lost);
   whole = λ own. subst (λ (r : Received). IfNotMemory r (KeepsPiece (stream_of c (history_of before).streams) octets
       taken.outcomes x z)) (sym memory) tt;
   passed = λ own accepted. absurd (cc);

@@ -71,7 +71,7 @@ accepted_none way before c k r os own turn is lost on = record {
 abbrev pub accepted_closing : (way : Manner) (before : List AcceptedEvent) (c : ℕ) (o : List ℕ) (r : Received)
     (os : List Outcome) (own closing : List AcceptedEvent) (turn : Turn)
     (is : IsReceivedAs way before (Piece c o) r os own)
-    → loses_piece r os (is.1 c) ≡ true → Receives way (before ++ own) (Ended c) closing → turn ≡ On
+    → loses_piece r os (is.1 c) ≡ true → Receives way (before ++ own) (Ended c) closing turn → turn ≡ On
     → IsAccepted way before (Piece c o) (own ++ closing) true turn
 accepted_closing way before c o r os own closing turn is lost ends on = record {
   received = r;

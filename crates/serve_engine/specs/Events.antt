@@ -89,16 +89,17 @@ turn_after received.Refused waits = On
 turn_after received.Memory zero = On
 turn_after received.Memory (suc waits) = End Memory
 
--- and after any other event with the next step
+-- and after an opening or a datagram with the next step; after an end too, for which no memory is needed
 abbrev pub turn_of : AcceptedEvent → Received → ℕ → Turn
 turn_of (Opened c k) r waits = On
 turn_of (Piece c o) r waits = turn_after r waits
-turn_of (Ended c) r waits = On
+turn_of (Ended c) r waits = turn_after r 1
 turn_of (Datagram o) r waits = On
 
--- a collector makes this of an event that comes after others
-abbrev pub Receives : Manner → List AcceptedEvent → AcceptedEvent → List AcceptedEvent → Type 0
-Receives way before e own = (r : Received) × (os : List Outcome) × IsReceivedAs way before e r os own
+-- a collector makes this of an event that comes after others, and so it goes on
+abbrev pub Receives : Manner → List AcceptedEvent → AcceptedEvent → List AcceptedEvent → Turn → Type 0
+Receives way before e own turn = (r : Received) × (os : List Outcome) × (is : IsReceivedAs way before e r os own)
+    × (turn ≡ turn_of e r (waits_in e is.1))
 
 -- the last of outcomes is a bad count
 abbrev pub bad_last : Option Outcome → Bool
@@ -134,7 +135,7 @@ abbrev pub EndsLost : Bool → Manner → List AcceptedEvent → AcceptedEvent �
     → Type 0
 EndsLost false way events e r waits closing turn = (closing ≡ []) × (turn ≡ turn_of e r waits)
 EndsLost true way events (Opened c k) r waits closing turn = (closing ≡ []) × (turn ≡ On)
-EndsLost true way events (Piece c o) r waits closing turn = Receives way events (Ended c) closing × (turn ≡ On)
+EndsLost true way events (Piece c o) r waits closing turn = Receives way events (Ended c) closing turn × (turn ≡ On)
 EndsLost true way events (Ended c) r waits closing turn = ⊥
 EndsLost true way events (Datagram o) r waits closing turn = ⊥
 

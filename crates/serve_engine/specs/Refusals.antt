@@ -1,20 +1,23 @@
 -- Frames that are refused, as they are kept.
 use Rattle.std.specs.Prelude.{◌≡◌, ◌⊎◌, ◌-◌, ◌^◌, ◌<◌, ◌≤◌, ℕ, List, [], ◌∷◌, ◌++◌, length, codes, decimal, take}
-use Rattle.std.specs.Prelude.{Bool, false, Option, Some, None}
+use Rattle.std.specs.Prelude.{Bool, Option, Some, None}
 use Rattle.std.specs.Io.KnownBytes.{Appends}
 use Rattle.octet_devices.specs.Device.{OutputState}
 use Rattle.collect_engine.specs.Receiving.{HearsReceived, IfNotMemory}
+use Rattle.collect_engine.specs.declared.receiving.Received.{Received}
 use Rattle.collect_engine.specs.declared.receiving.Received.TheVariants as received
 use Rattle.syslog_collect.specs.History.{AcceptedEvent, Opened, Piece, Ended, Datagram, Stream, history_of, stream_of}
 use Rattle.syslog_collect.specs.Observers.{HearsPiece}
 use Rattle.syslog_collect.specs.declared.outcome.Outcome.{Outcome}
 use Rattle.syslog_collect.specs.declared.outcome.Outcome.TheVariants.{New, Held, Refused, RefusedLegacy, TooLong}
 use Rattle.syslog_collect.specs.declared.outcome.Outcome.TheVariants.{BadCount}
-use Rattle.serve_engine.specs.Counts.{CountsBroken, CountsDropped, CountsEnd, CountsOpening, CountsSilent, counted, octets_counted}
+use Rattle.serve_engine.specs.Counts.{CountsBroken, CountsDropped, CountsEnd, CountsOpening, CountsSilent, broken_counted}
+use Rattle.serve_engine.specs.Counts.{counted, octets_counted}
 use Rattle.serve_engine.specs.Events.{IsAccepted, Manner}
 use Rattle.serve_engine.specs.declared.counts.ServeCounts.{ServeCounts}
 use Rattle.serve_engine.specs.declared.report.Report.{Report}
 use Rattle.serve_engine.specs.declared.turn.Turn.{Turn}
+use Rattle.serve_engine.specs.declared.turn.Turn.TheVariants.{On, End}
 use denote.Bor.{Bor}
 
 -- a counted frame
@@ -80,6 +83,14 @@ abbrev pub KeepsNext : OutputState × ServeCounts → Outcome → Option (List �
 KeepsNext old outcome frame new = KeepsOutcome old.0 new.0 outcome frame old.1.dropped new.1.dropped
     × CountsDropped (counted old.1 outcome) new.1
 
+-- where memory was wanted and it goes on, something is lost: it is counted as broken, and a line may be written
+abbrev pub CountsLost : Received → Turn → OutputState × ServeCounts → OutputState × ServeCounts → Type 0
+CountsLost received.Accepted turn old new = new ≡ old
+CountsLost (received.Unterminated start) turn old new = new ≡ old
+CountsLost received.Refused turn old new = new ≡ old
+CountsLost received.Memory On old new = KeepsNone old new × CountsDropped (broken_counted old.1) new.1
+CountsLost received.Memory (End end) old new = new ≡ old
+
 -- octets came, and were counted
 abbrev pub come : List ℕ → OutputState × ServeCounts → OutputState × ServeCounts
 come octets old = (old.0, octets_counted old.1 (length octets))
@@ -96,14 +107,14 @@ abbrev pub KeepsPiece : Option Stream → List ℕ → List Outcome → OutputSt
 KeepsPiece stream octets outcomes old new = (between : OutputState × ServeCounts)
     × HearsPiece KeepsNext stream octets 0 0 [] outcomes old between × KeepsNoFrame between new
 
--- of what was accepted of a piece, the frames were whose outcomes it has, and then no other; where all of it was, these
--- are its frames; where it was passed over, none was
+-- of what was accepted of a piece, the frames were whose outcomes it has, and what is lost is counted; where all of it was,
+-- these are its frames; where it was passed over, none was
 pub record KeepsFrames {way : Manner} {before : List AcceptedEvent} {c : ℕ} {octets : List ℕ}
     {here : List AcceptedEvent} {lost : Bool} {turn : Turn}
     (taken : IsAccepted way before (Piece c octets) here lost turn) (old new : OutputState × ServeCounts) : Type 0 where
   pub told : (between : OutputState × ServeCounts)
       × HearsReceived KeepsNext (stream_of c (history_of before).streams) octets (taken.is.0 c) (taken.is.1 c)
-      taken.outcomes old between × KeepsSilent false between new
+      taken.outcomes old between × CountsLost taken.received turn between new
   pub whole : taken.own ≡ Piece c octets ∷ [] → IfNotMemory taken.received (KeepsPiece
       (stream_of c (history_of before).streams) octets taken.outcomes old new)
   pub passed : taken.own ≡ [] → taken.received ≡ received.Accepted → KeepsNoFrame old new
@@ -115,5 +126,5 @@ abbrev pub KeepsEvent : {way : Manner} {before here : List AcceptedEvent} {lost 
 KeepsEvent (Opened c k) taken old new = KeepsNone old new × CountsOpening taken.received old.1 new.1
 KeepsEvent (Piece c octets) taken old new = KeepsFrames taken (come octets old) new
 KeepsEvent (Ended c) taken old new = KeepsNone old new × CountsEnd taken.received old.1 new.1
-KeepsEvent (Datagram octets) taken old new = (between : OutputState × ServeCounts)
-    × KeepsEach octets taken.outcomes (come octets old) between × KeepsSilent false between new
+KeepsEvent {turn = turn} (Datagram octets) taken old new = (between : OutputState × ServeCounts)
+    × KeepsEach octets taken.outcomes (come octets old) between × CountsLost taken.received turn between new

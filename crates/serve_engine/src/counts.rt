@@ -24,7 +24,8 @@ pub struct ServeCounts {
     pub batches: u64,
     /// Octets of pieces and datagrams.
     pub octets: u64,
-    /// Connections that went on with no count, or ended inside a frame.
+    /// Connections that went on with no count, ended inside a frame, or had no memory; and datagrams
+    /// that had none.
     pub broken: u64,
     /// Lines that could not be written.
     pub dropped: u64,

@@ -2,6 +2,7 @@
 ghost use Rattle.std.specs.Prelude.{◌≡◌, ◌++◌, ⊤, [], List, IfOk, OnErr, OnOk};
 ghost use Rattle.archive_text.specs.Entries.{Entry};
 ghost use Rattle.collect_engine.specs.Receiving.{HearsReceived, IfNotMemory, IfRefused, MayNotOpen, ReceivesAs};
+ghost use Rattle.collect_engine.specs.declared.receiving.Received.TheVariants.{Memory};
 ghost use Rattle.syslog_collect.specs.Collectors.{NoneWaits, limit_of, reading_of, store_of, waits_of};
 ghost use Rattle.syslog_collect.specs.History.{AcceptedEvent, Ended, Opened, Piece, history_of, stream_of};
 ghost use Rattle.syslog_collect.specs.Runs.{accepted_event};
@@ -29,7 +30,7 @@ fn opening_of(answer: Result<(), CollectFault>) -> Received
     }
 }
 
-// What became of an end, for which no memory is wanted.
+// What became of an end, for which no memory is needed.
 fn ending_of(answer: Result<(), CollectFault>) -> Received
     ensures { result ≡ ending_of answer }
 {
@@ -84,7 +85,7 @@ impl<S: Store + Drop, K: Keeping<S> + Drop> Intake<S, K> {
         opening_of(answer)
     }
 
-    /// Ends a connection in the collector.
+    /// Ends a connection in the collector. No memory is needed for that.
     pub(crate) fn end(&mut self, conn: u32) -> Received
         ensures received { (k : Kept) (first : List Entry) (before : List AcceptedEvent)
             → StandsBy S.entries K.stands self.old k first before
@@ -95,6 +96,7 @@ impl<S: Store + Drop, K: Keeping<S> + Drop> Intake<S, K> {
         ensures settled { (k : Kept) (first : List Entry) (before : List AcceptedEvent)
             → StandsBy S.entries K.stands self.old k first before
             → NoneWaits self.old.collector → NoneWaits self.new.collector }
+        ensures memory { ¬ (result ≡ Memory) }
         ensures manner { manner_of self.new.collector ≡ manner_of self.old.collector }
     {
         let answer = self.collector.end_conn(conn);

@@ -1,5 +1,5 @@
 //! What keeps records through crashes, as a server sees it.
-ghost use Rattle.std.specs.Prelude.{◌≡◌, [], Bool, OnErr, OnOk};
+ghost use Rattle.std.specs.Prelude.{◌≡◌, [], Bool, OnErr, OnOk, false};
 ghost use Rattle.serve_engine.specs.Counts.{no_taken, taken_both};
 ghost use Rattle.serve_engine.specs.Keepings.{HandsOver, Kept, all_committed};
 
@@ -62,13 +62,14 @@ pub trait Keeping<S: Store> {
     fn is_short(&self, fresh: &S) -> bool
         ensures { result ≡ short fresh.now };
 
-    /// Takes what a set holds, and leaves it empty. Where memory is short, it moves what it holds to
-    /// other files first. After an error, what was not taken is still in the set, so that the next call
-    /// goes on.
+    /// Takes what a set holds, and leaves it empty, so that memory is not short for it. If it was, what
+    /// was kept before may be moved to other files, as by `checkpoint`. After an error, what was not
+    /// taken is still in the set, so that the next call goes on.
     fn take(&mut self, alloc: Global, fresh: &mut S) -> Result<Taken, KeepFault>
         ensures hands { (k : Kept) → stands self.old k → (j : Kept) × stands self.new j
             × HandsOver k j (S.entries fresh.old) (S.entries fresh.new) }
-        ensures empty { OnOk result (S.entries fresh.new ≡ []) };
+        ensures empty { OnOk result (S.entries fresh.new ≡ []) }
+        ensures short { OnOk result (short fresh.new ≡ false) };
 
     /// Commits what it holds: once this has returned `Ok`, every crash leaves it. It fails as the
     /// variants of [`KeepFault`] say.

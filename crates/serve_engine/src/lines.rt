@@ -11,7 +11,7 @@ use std::net::SocketAddr;
 use syslog_collect::Outcome;
 use syslog_frame::Framing;
 
-/// What happened to a connection, other than to one of its frames, or to a datagram.
+/// What happened to a connection or a datagram, other than that a frame was refused.
 #[derive(Clone, Copy, Debug, PartialEq, Eq)]
 pub(crate) enum Happening {
     /// It ended inside the frame that begins at this position.

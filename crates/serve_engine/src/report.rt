@@ -1,11 +1,12 @@
 //! What a server tells: lines, counts, and the frames that it refuses.
 ghost use Rattle.std.specs.Prelude.{◌≡◌, ◌≤◌, false, true};
 ghost use Rattle.serve_engine.specs.Counts.{CountsDropped, CountsEnd, connection_counted, count_up, counted, no_counts};
-ghost use Rattle.serve_engine.specs.Counts.{commit_counted, octets_counted, quiet_counted};
+ghost use Rattle.serve_engine.specs.Counts.{broken_counted, commit_counted, octets_counted, quiet_counted};
 ghost use Rattle.serve_engine.specs.Paces.{GoesByPace, HasLine, PaysFor, SpendsLine};
 ghost use Rattle.serve_engine.specs.Peers.{peer_of};
-ghost use Rattle.serve_engine.specs.Refusals.{KeepsEach, KeepsFrame, KeepsNext, KeepsNone, KeepsSilent, kept_in};
-ghost use Rattle.serve_engine.specs.Refusals.{octets_in, outputs_in};
+ghost use Rattle.serve_engine.specs.Refusals.{CountsLost, KeepsEach, KeepsFrame, KeepsNext, KeepsNone, KeepsSilent};
+ghost use Rattle.serve_engine.specs.Refusals.{kept_in, octets_in, outputs_in};
+ghost use Rattle.serve_engine.specs.declared.turn.Turn.TheVariants.{On};
 
 use crate::counts::ServeCounts;
 use crate::keeping::Taken;
@@ -260,12 +261,22 @@ impl<N: Output + Drop, R: Output + Drop> Report<N, R> {
         }
     }
 
-    /// Tells that a datagram was dropped for want of memory, if it was.
-    pub(crate) fn tell_dropped(&mut self, alloc: Global, way: Way, received: Received)
-        ensures { KeepsSilent false (kept_in R.state self.old) (kept_in R.state self.new) }
+    /// Counts what is lost for want of memory, and tells it.
+    pub(crate) fn lost(&mut self, alloc: Global, way: Way, happening: Happening)
+        ensures kept { KeepsNone (kept_in R.state self.old) (kept_in R.state self.new) }
+        ensures counts { CountsDropped (broken_counted self.old.counts) self.new.counts }
     {
-        if received == Received::Memory {
-            self.tell(alloc, way, Happening::Dropped);
+        count_up(&mut self.counts.broken, 1);
+        self.tell(alloc, way, happening);
+    }
+
+    /// Counts and tells that a datagram is lost for want of memory, if it is.
+    pub(crate) fn datagram(&mut self, alloc: Global, way: Way, received: Received)
+        ensures { CountsLost received On (kept_in R.state self.old) (kept_in R.state self.new) }
+    {
+        match received {
+            Received::Memory => self.lost(alloc, way, Happening::Dropped),
+            Received::Accepted | Received::Refused | Received::Unterminated { .. } => {}
         }
     }
 

@@ -103,7 +103,7 @@ impl<S: Store + Drop, K: Keeping<S> + Drop, N: Output + Drop, R: Output + Drop> 
             → StandsBy S.entries K.stands self.old.intake k first before
             → NoneWaits self.old.intake.collector → (here : List AcceptedEvent)
             × StandsBy S.entries K.stands self.new.intake k first (before ++ here)
-            × Receives (manner_of self.old.intake.collector) before (Ended lost) here
+            × Receives (manner_of self.old.intake.collector) before (Ended lost) here result
             × NoneWaits self.new.intake.collector }
         ensures manner { manner_of self.new.intake.collector ≡ manner_of self.old.intake.collector }
         ensures full { self.new.full ≡ self.old.full }
@@ -117,8 +117,8 @@ impl<S: Store + Drop, K: Keeping<S> + Drop, N: Output + Drop, R: Output + Drop> 
         Turn::On
     }
 
-    // Octets came on a connection. If memory is wanted for them, it is closed; but if it is wanted for
-    // the record of a frame that they complete, which cannot be dropped, the run ends.
+    // Octets came on a connection. If there is no memory for them, it is closed; if there is none for the
+    // record of a frame that they complete, the run ends.
     pub(crate) fn piece<Q: ServerSource>(
         &mut self,
         alloc: Global,
@@ -143,7 +143,7 @@ impl<S: Store + Drop, K: Keeping<S> + Drop, N: Output + Drop, R: Output + Drop> 
                 if self.intake.collector.frame_waits(conn) {
                     return Turn::End(ServeEnd::Memory);
                 }
-                self.report.tell(alloc, way, Happening::NoMemory);
+                self.report.lost(alloc, way, Happening::NoMemory);
                 self.lose(source, conn)
             }
             Received::Refused => self.lose(source, conn),
@@ -171,7 +171,7 @@ impl<S: Store + Drop, K: Keeping<S> + Drop, N: Output + Drop, R: Output + Drop> 
         Turn::On
     }
 
-    // A datagram came. If memory is wanted for its record, it is dropped.
+    // A datagram came. If there is no memory for its record, it is dropped.
     pub(crate) fn datagram(
         &mut self,
         alloc: Global,
@@ -189,7 +189,7 @@ impl<S: Store + Drop, K: Keeping<S> + Drop, N: Output + Drop, R: Output + Drop> 
         self.report.count_octets(octets.len());
         self.report
             .outcomes(alloc, way, self.intake.outcomes.as_slice(), octets);
-        self.report.tell_dropped(alloc, way, received);
+        self.report.datagram(alloc, way, received);
         Turn::On
     }
 

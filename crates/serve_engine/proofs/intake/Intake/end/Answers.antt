@@ -1,8 +1,8 @@
-use Rattle.std.proofs.Common.{◌∙◌}
+use Rattle.std.proofs.Common.{◌∙◌, sym}
 use Rattle.syslog_collect.specs.Answers.{accepted_ending}
 use Rattle.syslog_collect.specs.Collectors.{reading_of, waits_of}
 use Rattle.syslog_collect.specs.History.{history_of}
-use Rattle.serve_engine.proofs.Ending.{ended_as}
+use Rattle.serve_engine.proofs.Ending.{ended_as, never_memory}
 use Rattle.serve_engine.proofs.intake.Intake.end.Goals as goal
 
 pub returns-clause-received : goal.returns-clause-received
@@ -23,3 +23,6 @@ returns-clause-received g c k first before at = (
 pub returns-clause-settled : goal.returns-clause-settled
 returns-clause-settled g c k first before at none d =
     c.end_conn-answer.ensures.waits k.held first before at.collector d ∙ none d
+
+pub returns-clause-memory : goal.returns-clause-memory
+returns-clause-memory g c is = never_memory c.end_conn-answer.result (sym c.ending_of.ensures ∙ is)

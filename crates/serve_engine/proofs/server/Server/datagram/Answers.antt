@@ -28,7 +28,7 @@ returns-clause-served g c k first before at none =
             (subst (λ (os : List Outcome). KeepsEach c.args.octets.now os
             (kept_in (g.R.Output.state) c.count_octets.new.self)
             (kept_in (g.R.Output.state) c.outcomes.new.self)) c.as_slice.ensures.value c.outcomes.ensures.kept),
-        c.tell_dropped.ensures,
+        c.datagram.ensures,
       ),
       quiet_datagram _ (history_of before) _ _ _ c.receive-received.result _ _ none quiet made.2,
     )

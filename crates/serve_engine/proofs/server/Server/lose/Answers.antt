@@ -1,4 +1,4 @@
-use Rattle.serve_engine.proofs.Ending.{if_refused}
+use Rattle.serve_engine.proofs.Ending.{end_goes_on, if_refused}
 use Rattle.serve_engine.proofs.Turns.{never_memory}
 use Rattle.serve_engine.proofs.server.Server.lose.Goals as goal
 
@@ -8,6 +8,11 @@ returns-clause-served g c k first before at none =
     let quiet = c.end.ensures.settled k first before at none in (
       made.0,
       made.1,
-      (c.end.result, _, (_, _, none, never_memory c.end.result _ quiet, made.2, if_refused c.end.result _ tt)),
+      (
+        c.end.result,
+        _,
+        (_, _, none, never_memory c.end.result _ quiet, made.2, if_refused c.end.result _ tt),
+        end_goes_on c.end.result c.end.ensures.memory,
+      ),
       quiet,
     )

@@ -3,7 +3,8 @@ use Rattle.syslog_collect.specs.History.{AcceptedEvent, Ended, Piece, history_of
 use Rattle.serve_engine.specs.Events.{Manner, Receives, ends_in_bad_count, manner_of}
 use Rattle.serve_engine.specs.Intakes.{StandsBy}
 use Rattle.serve_engine.specs.Refusals.{kept_in}
-use Rattle.serve_engine.proofs.Refused.{hears_kept, kept_at, kept_frames, kept_starved}
+use Rattle.serve_engine.proofs.Refused.{ended_none_lost, hears_kept, kept_at, kept_frames, kept_starved, none_lost, one_lost}
+use Rattle.serve_engine.proofs.Refused.{refused_none_lost}
 use Rattle.serve_engine.proofs.Turns.{accepted_closing, accepted_own, ended_memory, kept_memory, lost_memory, lost_taken}
 use Rattle.serve_engine.proofs.Turns.{lost_refused, quiet_memory, still_settled, taken_on}
 use Rattle.serve_engine.proofs.server.Server.piece.Goals as goal
@@ -29,7 +30,8 @@ returns-then-frame_waits-clause-served g c = (
             (hears_kept (g.R.Output.state) _ c.args.octets.now _ _ _ c.begin_piece.new.self
             c.receive_piece-received.new.observer _ _ (kept_at (g.R.Output.state) c.begin_piece.new.self
             c.args.self.now.report c.args.octets.now c.begin_piece.ensures.refused c.begin_piece.ensures.counts) refl
-            (c.receive_piece-received.ensures.hears k first before at)),
+            (c.receive_piece-received.ensures.hears k first before at))
+            (ended_none_lost c.receive_piece-received.result _ _ c.in-Memory.is),
         tt,
       ),
 )
@@ -50,7 +52,7 @@ returns-else-frame_waits-clause-served g c = (
       c.receive_piece-received.result os made.0 lost.0 _
       (_, _, none, settled, made.2, c.receive_piece-received.ensures.room k first before at)
       (lost_memory c.receive_piece-received.result os _ c.in-Memory.is own) (subst (λ (w : Manner). Receives w
-      (before ++ made.0) (Ended c.args.conn) lost.0) c.receive_piece-received.ensures.manner lost.2)
+      (before ++ made.0) (Ended c.args.conn) lost.0 c.lose.result) c.receive_piece-received.ensures.manner lost.2)
       c.lose.ensures.turn in (
         made.0 ++ lost.0,
         subst (λ (es : List AcceptedEvent). StandsBy (g.S.Store.entries) (g.K.Keeping.stands) c.lose.new.self.intake k
@@ -61,7 +63,8 @@ returns-else-frame_waits-clause-served g c = (
             c.receive_piece-received.new.observer _ _ (kept_at (g.R.Output.state) c.begin_piece.new.self
             c.args.self.now.report c.args.octets.now c.begin_piece.ensures.refused c.begin_piece.ensures.counts) refl
             (c.receive_piece-received.ensures.hears k first before at))
-            (rw c.lose.ensures.report (c.tell.ensures.kept, c.tell.ensures.counts)),
+            (one_lost c.receive_piece-received.result _ _ _ c.in-Memory.is c.lose.ensures.turn
+            (rw c.lose.ensures.report c.lost.ensures.kept) (rw c.lose.ensures.report c.lost.ensures.counts)),
         rw c.lose.ensures.turn lost.3,
       ),
 )
@@ -80,7 +83,8 @@ returns-in-Refused-clause-served g c = (
       c.receive_piece-received.result os made.0 lost.0 _
       (_, _, none, settled, made.2, c.receive_piece-received.ensures.room k first before at)
       (lost_refused c.receive_piece-received.result os _ c.in-Refused.is) (subst (λ (w : Manner). Receives w (before ++ made.0)
-      (Ended c.args.conn) lost.0) c.receive_piece-received.ensures.manner lost.2) c.lose-in-Refused.ensures.turn in (
+      (Ended c.args.conn) lost.0 c.lose-in-Refused.result) c.receive_piece-received.ensures.manner lost.2)
+      c.lose-in-Refused.ensures.turn in (
         made.0 ++ lost.0,
         subst (λ (es : List AcceptedEvent). StandsBy (g.S.Store.entries) (g.K.Keeping.stands)
             c.lose-in-Refused.new.self.intake k first es) (append_assoc before made.0 lost.0) lost.1,
@@ -90,7 +94,8 @@ returns-in-Refused-clause-served g c = (
             c.receive_piece-received.new.observer _ _ (kept_at (g.R.Output.state) c.begin_piece.new.self
             c.args.self.now.report c.args.octets.now c.begin_piece.ensures.refused c.begin_piece.ensures.counts)
             (ap (λ r. kept_in (g.R.Output.state) r) (sym c.lose-in-Refused.ensures.report))
-            (c.receive_piece-received.ensures.hears k first before at)),
+            (c.receive_piece-received.ensures.hears k first before at))
+            (refused_none_lost c.receive_piece-received.result _ _ c.in-Refused.is),
         rw c.lose-in-Refused.ensures.turn lost.3,
       ),
 )
@@ -111,7 +116,8 @@ returns-then-ends_in_bad_count-clause-served g c = (
       (lost_taken c.receive_piece-received.result os _ true c.in-Accepted.is
       (ap ends_in_bad_count (sym c.as_slice.ensures.value) ∙ sym c.ends_in_bad_count.ensures
       ∙ c.if-ends_in_bad_count.true)) (subst (λ (w : Manner). Receives w (before ++ made.0)
-      (Ended c.args.conn) lost.0) c.receive_piece-received.ensures.manner lost.2)
+      (Ended c.args.conn) lost.0 c.lose-then-ends_in_bad_count.result)
+      c.receive_piece-received.ensures.manner lost.2)
       c.lose-then-ends_in_bad_count.ensures.turn in (
         made.0 ++ lost.0,
         subst (λ (es : List AcceptedEvent). StandsBy (g.S.Store.entries) (g.K.Keeping.stands)
@@ -122,7 +128,8 @@ returns-then-ends_in_bad_count-clause-served g c = (
             c.receive_piece-received.new.observer _ _ (kept_at (g.R.Output.state) c.begin_piece.new.self
             c.args.self.now.report c.args.octets.now c.begin_piece.ensures.refused c.begin_piece.ensures.counts)
             (ap (λ r. kept_in (g.R.Output.state) r) (sym c.lose-then-ends_in_bad_count.ensures.report))
-            (c.receive_piece-received.ensures.hears k first before at)),
+            (c.receive_piece-received.ensures.hears k first before at))
+            (none_lost c.receive_piece-received.result _ _ c.in-Accepted.is),
         rw c.lose-then-ends_in_bad_count.ensures.turn lost.3,
       ),
 )
@@ -148,7 +155,8 @@ returns-else-ends_in_bad_count-clause-served g c = (
             (hears_kept (g.R.Output.state) _ c.args.octets.now _ _ _ c.begin_piece.new.self
             c.receive_piece-received.new.observer _ _ (kept_at (g.R.Output.state) c.begin_piece.new.self
             c.args.self.now.report c.args.octets.now c.begin_piece.ensures.refused c.begin_piece.ensures.counts) refl
-            (c.receive_piece-received.ensures.hears k first before at)),
+            (c.receive_piece-received.ensures.hears k first before at))
+            (none_lost c.receive_piece-received.result _ _ c.in-Accepted.is),
         still_settled _ _ c.in-Accepted.is settled,
       ),
 )
