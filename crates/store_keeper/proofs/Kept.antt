@@ -1,6 +1,5 @@
 -- What a store keeps through its calls.
 use Rattle.std.proofs.Common.{⊎_elim, inl, List, ◌++◌}
-use Rattle.std.specs.Prelude.{◌↔◌}
 use Rattle.disk.specs.States.{State}
 use Rattle.archive_text.specs.Entries.{Entry, Has}
 use Rattle.archive_text.proofs.Members.{has_left, has_right}
@@ -9,7 +8,7 @@ use Rattle.record_store.specs.Stores.{Sets, all_committed, begun}
 use Rattle.record_store.specs.Turns.{turned}
 use Rattle.durable_store.specs.Durables.{Stands}
 use Rattle.durable_store.specs.declared.store.DurableStore.{DurableStore}
-use Rattle.serve_engine.specs.Keepings.{Kept, all_committed as whole}
+use Rattle.serve_engine.specs.Keepings.{Kept, all_committed as all_kept}
 use Rattle.store_keeper.specs.Keeping.{IsKept, kept_whole}
 
 -- where a store stands with the same sets, it keeps the same
@@ -26,7 +25,7 @@ same_kept old new was is k on kept = record {
 -- where what waits is committed, all that is held is
 pub commit_kept : (old new : DurableStore) (was is : State) (k : Kept)
     → ((sets : Sets) → Stands old was sets → Stands new is (all_committed sets)) → IsKept old was k
-    → IsKept new is (whole k)
+    → IsKept new is (all_kept k)
 commit_kept old new was is k on kept = record {
   sets = all_committed kept.sets;
   stands = on kept.sets kept.stands;
@@ -53,35 +52,6 @@ turn_kept old new was is k on kept = record {
       (λ before. has_left kept.sets.committed kept.sets.since x before)
       (λ waits. has_right kept.sets.committed kept.sets.since x (kept.stands.journal.waits x waits))
       (kept.waits x h));
-}
-
--- all that is held is committed then
-pub all_kept : (old new : DurableStore) (was is : State) (k : Kept)
-    → ((sets : Sets) → Stands old was sets → Stands new is (turned sets)) → IsKept old was k → IsKept new is (whole k)
-all_kept old new was is k on kept = record {
-  sets = turned kept.sets;
-  stands = on kept.sets kept.stands;
-  held = kept.held;
-  committed = now;
-  waits = λ x h. inl (now x h);
-}
-  where
-    now : (x : Entry) → Has k.held x → Has (kept.sets.committed ++ kept.sets.since) x
-    now x h = ⊎_elim
-        (λ before. has_left kept.sets.committed kept.sets.since x before)
-        (λ waits. has_right kept.sets.committed kept.sets.since x (kept.stands.journal.waits x waits))
-        (kept.waits x h)
-
--- what holds the same is kept alike
-pub kept_alike : (store : DurableStore) (state : State) (k : Kept) (held : List Entry)
-    → ((x : Entry) → Has k.held x ↔ Has held x) → IsKept store state k
-    → IsKept store state (record { held = held; committed = k.committed })
-kept_alike store state k held same kept = record {
-  sets = kept.sets;
-  stands = kept.stands;
-  held = λ x. (λ h. (kept.held x).0 ((same x).1 h), λ h. (same x).0 ((kept.held x).1 h));
-  committed = kept.committed;
-  waits = λ x h. kept.waits x ((same x).1 h);
 }
 
 -- a store that was opened where every crash leaves the same

@@ -1,6 +1,6 @@
 -- A store takes entries.
 use Rattle.std.proofs.Common.{◌≡◌, ⊎_elim, inl, inr, List, [], ◌∷◌, ◌++◌, refl, sym, ap, subst, ◌∙◌, append_assoc}
-use Rattle.std.specs.Prelude.{ℤ, Result, Ok, Err, OnOk}
+use Rattle.std.specs.Prelude.{ℤ}
 use Rattle.std.specs.List.{AllByRecursion}
 use Rattle.std.proofs.lemmas.List.{append-nil}
 use Rattle.disk.specs.States.{State}
@@ -12,14 +12,13 @@ use Rattle.archive_text.specs.Entries.{Entry, Has, IsEntry, IsEntryOf}
 use Rattle.archive_text.specs.Stores.{AddsRecord}
 use Rattle.archive_text.specs.declared.store.Added.{Added}
 use Rattle.archive_text.specs.declared.store.Added.TheVariants.{New, Held}
-use Rattle.archive_text.proofs.Members.{has_either, has_left, has_new, has_right, of_member}
+use Rattle.archive_text.proofs.Members.{all_right, has_either, has_left, has_new, has_right, of_member}
 use Rattle.archive_text.proofs.Texts.{one_entry_of}
 use Rattle.record_store.specs.Stores.{AreAmong, Sets, with_waiting}
 use Rattle.durable_store.specs.Durables.{AddsTo, Stands, entries_of}
 use Rattle.durable_store.specs.declared.store.DurableStore.{DurableStore}
 use Rattle.serve_engine.specs.Keepings.{HandsOver, Kept}
-use Rattle.store_keeper.specs.Keeping.{IsKept, StaysAs, Takes, TakesSome, with_held}
-use Rattle.store_keeper.proofs.Kept.{kept_alike}
+use Rattle.store_keeper.specs.Keeping.{IsKept, StaysAs, Takes, TakesFront, with_held}
 
 -- ---- one entry
 
@@ -118,17 +117,13 @@ takes_then a b c es fs one other state k kept =
     subst (λ (l : List Entry). IsKept c state (record { held = l; committed = k.committed }))
     (append_assoc k.held es fs) (other state (with_held k es) (one state k kept))
 
--- the entries before the rest were taken
-pub record FrontTaken (old new : DurableStore) (all rest : List Entry) : Type 0 where
-  pub front : List Entry
-  pub parts : all ≡ front ++ rest
-  pub takes : Takes old new front
+-- ---- from a place on
 
-pub front_none : (store : DurableStore) (all rest : List Entry) → rest ≡ all → FrontTaken store store all rest
+pub front_none : (store : DurableStore) (all rest : List Entry) → rest ≡ all → TakesFront store store all rest
 front_none store all rest same = record { front = []; parts = sym same; takes = takes_none store }
 
 pub front_more : (old mid new : DurableStore) (all rest next : List Entry) (e : Entry)
-    → FrontTaken old mid all rest → rest ≡ e ∷ next → Takes mid new (e ∷ []) → FrontTaken old new all next
+    → TakesFront old mid all rest → rest ≡ e ∷ next → Takes mid new (e ∷ []) → TakesFront old new all next
 front_more old mid new all rest next e t is more = record {
   front = t.front ++ e ∷ [];
   parts = t.parts ∙ ap (λ (l : List Entry). t.front ++ l) is ∙ sym (append_assoc t.front (e ∷ []) next);
@@ -136,26 +131,40 @@ front_more old mid new all rest next e t is more = record {
 }
 
 -- the first of the rest is an entry
-pub front_entry : (old new : DurableStore) (all rest next : List Entry) (e : Entry) → FrontTaken old new all rest
+pub front_entry : (old new : DurableStore) (all rest next : List Entry) (e : Entry) → TakesFront old new all rest
     → rest ≡ e ∷ next → AllByRecursion IsEntry all → IsEntry e
 front_entry old new all rest next e t is entries =
     of_member IsEntry all e entries
     (subst (λ (l : List Entry). Has l e) (sym (t.parts ∙ ap (λ (l : List Entry). t.front ++ l) is))
     (has_new t.front next e))
 
-pub front_all : (old new : DurableStore) (all rest : List Entry) → FrontTaken old new all rest → rest ≡ []
-    → Takes old new all
-front_all old new all rest t none =
-    subst (Takes old new)
-    (sym (t.parts ∙ ap (λ (l : List Entry). t.front ++ l) none ∙ append-nil t.front)) t.takes
+pub front_stays : (old mid new : DurableStore) (all rest : List Entry) → TakesFront old mid all rest
+    → StaysAs mid new → TakesFront old new all rest
+front_stays old mid new all rest t stays = record {
+  front = t.front;
+  parts = t.parts;
+  takes = λ state k kept. stays state (with_held k t.front) (t.takes state k kept);
+}
 
-pub front_some : (old mid new : DurableStore) (all rest : List Entry) → FrontTaken old mid all rest
-    → StaysAs mid new → TakesSome old new all
-front_some old mid new all rest t stays = (
-  t.front,
-  λ x h. subst (λ (l : List Entry). Has l x) (sym t.parts) (has_left t.front rest x h),
-  λ state k kept. stays state (with_held k t.front) (t.takes state k kept),
-)
+-- the entries from a place on are entries
+pub place_entries : (all front rest : List Entry) → all ≡ front ++ rest → AllByRecursion IsEntry all
+    → AllByRecursion IsEntry rest
+place_entries all front rest is entries =
+    all_right IsEntry front rest (subst (AllByRecursion IsEntry) is entries)
+
+-- those before it, and then more
+pub parts_join : (all front rest more next : List Entry) → all ≡ front ++ rest → rest ≡ more ++ next
+    → all ≡ (front ++ more) ++ next
+parts_join all front rest more next one two =
+    one ∙ ap (λ (l : List Entry). front ++ l) two ∙ sym (append_assoc front more next)
+
+pub among_front : (all front rest : List Entry) → all ≡ front ++ rest → AreAmong front all
+among_front all front rest is x h = subst (λ (l : List Entry). Has l x) (sym is) (has_left front rest x h)
+
+-- and where nothing is left, these are all
+pub all_front : (all front rest : List Entry) → all ≡ front ++ rest → rest ≡ [] → front ≡ all
+all_front all front rest is none =
+    sym (is ∙ ap (λ (l : List Entry). front ++ l) none ∙ append-nil front)
 
 -- ---- handed over
 
@@ -192,29 +201,7 @@ handed_some k some old among = record {
   committed = refl;
 }
 
--- ---- taken twice
-
--- some of them, and then all
-pub again : (store : DurableStore) (state : State) (k : Kept) (some all : List Entry) → AreAmong some all
-    → IsKept store state (with_held (with_held k some) all) → IsKept store state (with_held k all)
-again store state k some all among kept = kept_alike store state (with_held (with_held k some) all) (k.held ++ all)
-    (λ x. (
-      λ h. ⊎_elim
-          (λ front. ⊎_elim
-          (λ before. has_left k.held all x before)
-          (λ one. has_right k.held all x (among x one))
-          (has_either k.held some x front))
-          (λ more. has_right k.held all x more)
-          (has_either (k.held ++ some) all x h),
-      λ h. ⊎_elim
-          (λ before. has_left (k.held ++ some) all x (has_left k.held some x before))
-          (λ more. has_right (k.held ++ some) all x more)
-          (has_either k.held all x h),
-    )) kept
-
--- some of them, and then some
-pub among_both : (some more all : List Entry) → AreAmong some all → AreAmong more all → AreAmong (some ++ more) all
-among_both some more all one two x h = ⊎_elim (λ here. one x here) (λ there. two x there) (has_either some more x h)
+-- ---- and then more
 
 pub kept_both : (k : Kept) (store : DurableStore) (state : State) (some more : List Entry)
     → IsKept store state (with_held (with_held k some) more) → IsKept store state (with_held k (some ++ more))
@@ -226,7 +213,3 @@ kept_both k store state some more kept =
 pub none : (k : Kept) (store : DurableStore) (state : State) → IsKept store state k
     → IsKept store state (with_held k [])
 none k store state kept = takes_none store state k kept
-
-pub on_ok : {A E : Type 0} (r : Result A E) (P Q : Type 0) → OnOk r P → (P → Q) → OnOk r Q
-on_ok (Ok a) P Q h f = f h
-on_ok (Err e) P Q h f = tt

@@ -1,6 +1,9 @@
 -- What a durable store keeps of what a server hands over.
-use Rattle.std.specs.Prelude.{◌↔◌, ◌⊎◌, List, ◌++◌}
+use Rattle.std.specs.Prelude.{◌≡◌, ◌↔◌, ◌⊎◌, List, [], ◌∷◌, ◌++◌}
 use Rattle.disk.specs.States.{State}
+use Rattle.archive_pages.specs.Paged.{entries_from, entries_in}
+use Rattle.archive_pages.specs.declared.paged.PagedArchive.{PagedArchive}
+use Rattle.archive_pages.specs.declared.reading.Place.{Place}
 use Rattle.archive_text.specs.Entries.{Entry, Has}
 use Rattle.record_store.specs.Stores.{AreAmong, Sets}
 use Rattle.durable_store.specs.Durables.{Stands}
@@ -32,6 +35,12 @@ Takes old new es = (state : State) (k : Kept) → IsKept old state k → IsKept 
 abbrev pub StaysAs : DurableStore → DurableStore → Type 0
 StaysAs old new = (state : State) (k : Kept) → IsKept old state k → IsKept new state k
 
--- it takes some of these
-abbrev pub TakesSome : DurableStore → DurableStore → List Entry → Type 0
-TakesSome old new es = (some : List Entry) × AreAmong some es × Takes old new some
+-- it takes the first of these, but for the rest
+pub record TakesFront (old new : DurableStore) (all rest : List Entry) : Type 0 where
+  pub front : List Entry
+  pub parts : all ≡ front ++ rest
+  pub takes : Takes old new front
+
+-- a place in a set: its entries from there on are the last of them
+abbrev pub IsPlace : PagedArchive → Place → Type 0
+IsPlace s place = (front : List Entry) × (entries_in s ≡ front ++ entries_from s place)

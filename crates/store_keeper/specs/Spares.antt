@@ -13,6 +13,6 @@ pages_of s = s.pages
 abbrev pub spared_entries : SparedSet → List Entry
 spared_entries s = entries_in s.pages
 
--- what was held back was given up
+-- memory is short for it
 abbrev pub is_short : SparedSet → Bool
 is_short s = s.short

@@ -1,9 +1,9 @@
 //! The records of a set are added to a store.
-ghost use Rattle.std.specs.Prelude.{◌∷◌, [], OnErr, OnOk};
-ghost use Rattle.archive_pages.specs.Paged.{entries_in};
+ghost use Rattle.std.specs.Prelude.{◌≡◌, ◌∷◌, [], OnErr, OnOk};
+ghost use Rattle.archive_pages.specs.Paged.{entries_from};
 ghost use Rattle.archive_text.specs.Entries.{IsEntry};
 ghost use Rattle.archive_text.specs.EntryViews.{entry_of};
-ghost use Rattle.store_keeper.specs.Keeping.{StaysAs, Takes, TakesSome};
+ghost use Rattle.store_keeper.specs.Keeping.{IsPlace, StaysAs, Takes, TakesFront};
 
 use archive_pages::{PagedArchive, Place};
 use archive_text::{AddFault, Added, EntryView, Store};
@@ -53,21 +53,23 @@ fn add_entry(
     }
 }
 
-/// Adds all records of a set. After an error some of them may be there.
-pub(crate) fn add_all(
+/// Adds the records of a set from a place on, and moves the place behind the last that was added.
+pub(crate) fn add_from(
     alloc: Global,
     store: &mut DurableStore,
     fresh: &PagedArchive,
-) -> Result<Taken, KeepFault>
-    ensures all { OnOk result (Takes store.old store.new (entries_in fresh.now)) }
-    ensures some { TakesSome store.old store.new (entries_in fresh.now) }
+    place: &mut Place,
+    taken: &mut Taken,
+) -> Result<(), KeepFault>
+    requires { IsPlace fresh.now place.old }
+    ensures front { TakesFront store.old store.new (entries_from fresh.now place.old)
+        (entries_from fresh.now place.new) }
+    ensures all { OnOk result (entries_from fresh.now place.new ≡ []) }
 {
-    let mut taken = Taken { new: 0, held: 0 };
-    let mut place = Place::first();
-    'entries: while let Some((entry, behind)) = fresh.next(place) {
+    'entries: while let Some((entry, behind)) = fresh.next(*place) {
         let added = add_entry(alloc, store, &entry)?;
-        taken = counted(taken, added);
-        place = behind;
+        *taken = counted(*taken, added);
+        *place = behind;
     }
-    Ok(taken)
+    Ok(())
 }

@@ -1,9 +1,10 @@
 //! A durable store and its disk.
 
-use crate::adding::add_all;
+use crate::adding::add_from;
 use crate::spared::SparedSet;
 use crate::watched::{SoundDisk, WatchedDisk};
-use archive_pages::PagedArchive;
+use archive_pages::Place;
+use archive_text::Store;
 use disk::{Disk, DiskFault};
 use durable_store::{CheckpointFault, DurableStore, OpenFault, SetAside};
 use journal::JournalFault;
@@ -17,6 +18,9 @@ pub struct DiskKeeper<D: Disk> {
     store: DurableStore,
     disk: WatchedDisk<D>,
 }
+
+// How often memory is freed so that a set can be added.
+const ROUNDS_MAX: u32 = 64;
 
 // What a fault of the store means to a server.
 fn fault_of(fault: StoreFault) -> KeepFault {
@@ -45,14 +49,13 @@ fn fault_of_checkpoint(fault: CheckpointFault) -> KeepFault {
 }
 
 impl<D: Disk + Drop> DiskKeeper<D> {
-    ghost use Rattle.std.specs.Prelude.{◌≡◌, List, IfErr, IfOk, OnErr, OnOk};
-    ghost use Rattle.archive_pages.specs.Paged.{entries_in};
+    ghost use Rattle.std.specs.Prelude.{◌≡◌, List, IfErr, IfOk, OnOk};
     ghost use Rattle.archive_text.specs.Entries.{Entry};
     ghost use Rattle.record_store.specs.Crashes.{Keeps};
     ghost use Rattle.record_store.specs.Stores.{AreAmong, begun};
     ghost use Rattle.durable_store.specs.Asides.{SetsTailsAside, asides_of};
     ghost use Rattle.durable_store.specs.Durables.{IsBroken, Stands, entries_of};
-    ghost use Rattle.serve_engine.specs.Keepings.{Kept, all_committed};
+    ghost use Rattle.serve_engine.specs.Keepings.{Kept};
     ghost use Rattle.store_keeper.specs.Keepers.{KeepsOn, disk_of, store_of};
     ghost use Rattle.store_keeper.specs.Keeping.{kept_whole, with_held};
     ghost use Rattle.store_keeper.specs.Spares.{pages_of, spared_entries};
@@ -97,10 +100,9 @@ impl<D: Disk + Drop> DiskKeeper<D> {
         self.disk.inner()
     }
 
-    // Writes what is in memory to other files, so that its memory is free again.
+    // Moves what is in memory to other files.
     fn write_out(&mut self, alloc: Global) -> Result<(), KeepFault>
-        ensures kept { (k : Kept) → KeepsOn self.old k → KeepsOn self.new k }
-        ensures done { OnOk result ((k : Kept) → KeepsOn self.old k → KeepsOn self.new (all_committed k)) }
+        ensures { (k : Kept) → KeepsOn self.old k → KeepsOn self.new k }
     {
         match self.store.checkpoint(alloc, &mut self.disk) {
             Ok(()) => Ok(()),
@@ -108,18 +110,28 @@ impl<D: Disk + Drop> DiskKeeper<D> {
         }
     }
 
-    // Writes what is in memory out, and adds all records of a set.
-    fn add_written(&mut self, alloc: Global, fresh: &PagedArchive) -> Result<Taken, KeepFault>
-        ensures all { OnOk result ((k : Kept) → KeepsOn self.old k
-            → KeepsOn self.new (with_held k (entries_in fresh.now))) }
-        ensures some { (k : Kept) → KeepsOn self.old k → (some : List Entry)
-            × AreAmong some (entries_in fresh.now) × KeepsOn self.new (with_held k some) }
+    // Frees the memory of what is in memory, if anything is.
+    fn free_memory(&mut self, alloc: Global) -> Result<(), KeepFault>
+        ensures { (k : Kept) → KeepsOn self.old k → KeepsOn self.new k }
     {
-        self.write_out(alloc)?;
-        add_all(alloc, &mut self.store, fresh)
+        if self.store.len() == 0 {
+            return Ok(());
+        }
+        self.write_out(alloc)
     }
 
-    // Adds all records of a set. Where memory is short, what is in memory is written out first.
+    // Frees memory if it is short.
+    fn relieve(&mut self, alloc: Global, short: bool) -> Result<(), KeepFault>
+        ensures { (k : Kept) → KeepsOn self.old k → KeepsOn self.new k }
+    {
+        if !short {
+            return Ok(());
+        }
+        self.free_memory(alloc)
+    }
+
+    // Adds all records of a set. Where there is no memory for one, that of those before it is freed, and
+    // it goes on with that one.
     fn add_set(&mut self, alloc: Global, fresh: &mut SparedSet) -> Result<Taken, KeepFault>
         ensures same { pages_of fresh.new ≡ pages_of fresh.old }
         ensures all { OnOk result ((k : Kept) → KeepsOn self.old k
@@ -127,16 +139,25 @@ impl<D: Disk + Drop> DiskKeeper<D> {
         ensures some { (k : Kept) → KeepsOn self.old k → (some : List Entry)
             × AreAmong some (spared_entries fresh.old) × KeepsOn self.new (with_held k some) }
     {
-        if fresh.is_short() {
-            return self.add_written(alloc, fresh.pages());
-        }
-        match add_all(alloc, &mut self.store, fresh.pages()) {
-            Err(KeepFault::Memory) => {
-                fresh.give_up(alloc);
-                self.add_written(alloc, fresh.pages())
+        let mut taken = Taken { new: 0, held: 0 };
+        let mut place = Place::first();
+        for _round in 0..ROUNDS_MAX {
+            match add_from(
+                alloc,
+                &mut self.store,
+                fresh.pages(),
+                &mut place,
+                &mut taken,
+            ) {
+                Ok(()) => return Ok(taken),
+                Err(KeepFault::Memory) => {
+                    fresh.give_up(alloc);
+                    self.free_memory(alloc)?;
+                }
+                Err(fault) => return Err(fault),
             }
-            taken => taken,
         }
+        Err(KeepFault::Memory)
     }
 }
 
@@ -153,6 +174,7 @@ impl<D: Disk + Drop> Keeping<SparedSet> for DiskKeeper<D> {
     }
 
     fn take(&mut self, alloc: Global, fresh: &mut SparedSet) -> Result<Taken, KeepFault> {
+        self.relieve(alloc, fresh.is_short())?;
         let taken = self.add_set(alloc, fresh)?;
         fresh.clear(alloc);
         Ok(taken)

@@ -14,9 +14,9 @@ use syslog_value::Record;
 // How many octets of memory are held back.
 const SPARE: usize = 4 << 20;
 
-/// A set of records, and memory that is held back for it. Where memory is refused to a record, what
-/// was held back is given up, and the record is added. Memory is short then, until the set is empty
-/// again.
+/// A set of records, and memory that is held back for it, as far as there was some. Where a record has
+/// no room, what is held back is given up, and it is tried once more. Memory is short then, until the
+/// set is emptied.
 #[derive(Drop)]
 pub struct SparedSet {
     pages: PagedArchive,
@@ -33,9 +33,10 @@ fn hold_back(alloc: Global) -> Vec<u8> {
 }
 
 impl SparedSet {
-    /// An empty set.
+    /// An empty set. Memory is not short.
     pub fn new(alloc: Global) -> SparedSet
-        ensures { spared_entries result ≡ [] }
+        ensures empty { spared_entries result ≡ [] }
+        ensures short { is_short result ≡ false }
     {
         SparedSet {
             pages: PagedArchive::new(alloc),
@@ -51,14 +52,14 @@ impl SparedSet {
         &self.pages
     }
 
-    /// Whether what was held back was given up since the set was empty.
+    /// Whether memory is short.
     pub(crate) fn is_short(&self) -> bool
         ensures { result ≡ is_short self.now }
     {
         self.short
     }
 
-    /// Gives up what was held back.
+    /// Gives up what is held back.
     pub(crate) fn give_up(&mut self, alloc: Global)
         ensures pages { pages_of self.new ≡ pages_of self.old }
         ensures short { is_short self.new ≡ true }
@@ -67,16 +68,16 @@ impl SparedSet {
         self.short = true;
     }
 
-    /// Empties the set, and holds memory back again where it was given up.
+    /// Empties the set, and holds memory back again if none is.
     pub(crate) fn clear(&mut self, alloc: Global)
         ensures empty { spared_entries self.new ≡ [] }
         ensures short { is_short self.new ≡ false }
     {
         self.pages = PagedArchive::new(alloc);
-        if self.short {
+        if self.spare.capacity() == 0 {
             self.spare = hold_back(alloc);
-            self.short = false;
         }
+        self.short = false;
     }
 }
 
