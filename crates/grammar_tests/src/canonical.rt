@@ -1,35 +1,49 @@
 //! The canonical octets of records.
 
+use crate::calls::{
+    canonical_octets, decoded, fault, is_canonical, is_canonical_unsorted, record_of, seen,
+};
 use std::alloc::Global;
 use std::test::Fail;
 use syslog_grammar::{
-    DecodeFault, Fault, canon, decode, fault_of, is_canon, is_canon_unsorted, view, view_and_form,
-    write_canonical_octets, write_canonical_view,
+    DecodeFault, Fault, view_and_form, write_canonical_octets, write_canonical_view,
 };
+
+/// What is in the room of an output before a call.
+const OLD: &[u8] = b"old ";
+
+/// Other octets, and the canonical octets of a record behind them, from its view.
+fn behind_by_view(alloc: Global, octets: &[u8]) -> Result<Vec<u8>, Fail> {
+    let seen = seen(octets).ok().ok_or("a fault")?;
+    let mut out = OLD.to_vec(alloc)?;
+    write_canonical_view(alloc, &seen, &mut out)?;
+    Ok(out)
+}
+
+/// The same from the octets alone, and their fault.
+fn behind_by_octets(alloc: Global, octets: &[u8]) -> Result<(Vec<u8>, Option<Fault>), Fail> {
+    let mut out = OLD.to_vec(alloc)?;
+    let fault = write_canonical_octets(alloc, octets, &mut out)?;
+    Ok((out, fault))
+}
 
 /// The canonical octets from the record. They are those from the view too, put behind other octets,
 /// and no other octets of the record are taken for canonical.
 fn canonical(alloc: Global, octets: &[u8]) -> Result<Vec<u8>, Fail> {
-    let seen = view(octets).ok().ok_or("a fault")?;
-    let record = seen.to_record(alloc)?;
-    let mut appended = b"old ".to_vec(alloc)?;
-    write_canonical_view(alloc, &seen, &mut appended)?;
-    let by_record = canon(alloc, &record)?;
-    let mut expected = b"old ".to_vec(alloc)?;
+    let by_record = canonical_octets(alloc, &record_of(alloc, octets)?)?;
+    let mut expected = OLD.to_vec(alloc)?;
     expected.extend_from_slice(by_record.as_slice())?;
-    if appended.as_slice() != expected.as_slice() {
+    if behind_by_view(alloc, octets)? != expected {
         return Err(Fail::from("the view and the record differ"));
     }
-    if !is_canon(by_record.as_slice()) || !is_canon_unsorted(by_record.as_slice()) {
+    if !is_canonical(by_record.as_slice()) || !is_canonical_unsorted(by_record.as_slice()) {
         return Err(Fail::from("canonical octets are not known as such"));
     }
-    let mut direct = b"old ".to_vec(alloc)?;
-    let fault = write_canonical_octets(alloc, octets, &mut direct)?;
-    if fault.is_some() || fault_of(octets).is_some() || direct.as_slice() != expected.as_slice() {
+    let (direct, refused) = behind_by_octets(alloc, octets)?;
+    if refused.is_some() || fault(octets).is_some() || direct != expected {
         return Err(Fail::from("the octets and the record differ"));
     }
-    let same = octets == by_record.as_slice();
-    if is_canon(octets) != same {
+    if is_canonical(octets) != (octets == by_record.as_slice()) {
         return Err(Fail::from("other octets are taken for canonical ones"));
     }
     Ok(by_record)
@@ -162,12 +176,12 @@ fn the_largest_record_grows_by_each_backslash(rt: HostRuntime) -> Result<(), Fai
 fn a_decoded_record_is_that_of_the_view_and_its_copy(rt: HostRuntime) -> Result<(), Fail> {
     let octets =
         b"<165>1 2003-08-24T05:14:15.000003-07:00 192.0.2.1 myproc 8710 - [b][a k=\"1\" k=\"\\\"\"] x".as_slice();
-    let decoded = decode(rt.alloc(), octets).ok().ok_or("refused")?;
-    let seen = view(octets).ok().ok_or("a fault")?;
-    assert!(rt; seen.to_record(rt.alloc())? == decoded);
-    assert!(rt; decoded.copy(rt.alloc())? == decoded);
-    let other = canon(rt.alloc(), &decoded)?;
-    assert!(rt; decode(rt.alloc(), other.as_slice()).ok().ok_or("refused")? == decoded);
+    let record = decoded(rt.alloc(), octets).ok().ok_or("refused")?;
+    assert!(rt; record_of(rt.alloc(), octets)? == record);
+    assert!(rt; record.copy(rt.alloc())? == record);
+    let other = canonical_octets(rt.alloc(), &record)?;
+    let again = decoded(rt.alloc(), other.as_slice()).ok().ok_or("refused")?;
+    assert!(rt; again == record);
     Ok(())
 }
 
@@ -184,16 +198,13 @@ const FAULTS: [(&[u8], Fault); 2] = [
 
 #[test]
 fn octets_that_are_no_record_are_refused_with_their_fault(rt: HostRuntime) -> Result<(), Fail> {
-    for (octets, fault) in FAULTS {
-        let refused = decode(rt.alloc(), octets).err();
-        assert_eq!(rt; refused, Some(DecodeFault::Bad(fault)));
-        let mut out = b"old ".to_vec(rt.alloc())?;
-        assert_eq!(rt;
-            write_canonical_octets(rt.alloc(), octets, &mut out)?,
-            Some(fault)
-        );
-        assert_eq!(rt; out.as_slice(), b"old ".as_slice());
-        assert_eq!(rt; fault_of(octets), Some(fault));
+    for (octets, expected) in FAULTS {
+        let refused = decoded(rt.alloc(), octets).err();
+        assert_eq!(rt; refused, Some(DecodeFault::Bad(expected)));
+        let (out, refused) = behind_by_octets(rt.alloc(), octets)?;
+        assert_eq!(rt; refused, Some(expected));
+        assert_eq!(rt; out.as_slice(), OLD);
+        assert_eq!(rt; fault(octets), Some(expected));
     }
     Ok(())
 }
@@ -227,18 +238,17 @@ const CANONICAL: [(&[u8], bool, bool); 16] = [
 ];
 
 #[test]
-fn canonical_octets_are_known_as_such(rt: HostRuntime) -> Result<(), Fail> {
+fn canonical_octets_are_known_as_such(rt: HostRuntime) {
     for (octets, sorted, unsorted) in CANONICAL {
-        assert!(rt; is_canon(octets) == sorted);
-        assert!(rt; is_canon_unsorted(octets) == unsorted);
+        assert!(rt; is_canonical(octets) == sorted);
+        assert!(rt; is_canonical_unsorted(octets) == unsorted);
     }
-    Ok(())
 }
 
 /// Whether a single reading gives the view, or the fault, and tells whether the octets are canonical.
 fn reads_both(octets: &[u8]) -> bool {
-    match (view_and_form(octets), view(octets)) {
-        (Ok((seen, is_canonical)), Ok(other)) => seen == other && is_canonical == is_canon(octets),
+    match (view_and_form(octets), seen(octets)) {
+        (Ok((view, form)), Ok(other)) => view == other && form == is_canonical(octets),
         (Err(fault), Err(other)) => fault == other,
         _ => false,
     }

@@ -1,8 +1,9 @@
 //! Records with many ids, and ids that have the same hash.
 
+use crate::calls::{is_canonical_unsorted, seen};
 use std::alloc::{AllocError, Global};
 use std::test::Fail;
-use syslog_grammar::{Fault, is_canon_unsorted, view};
+use syslog_grammar::Fault;
 
 /// The letter with this number.
 fn letter(n: u32) -> u8 {
@@ -30,7 +31,7 @@ fn scattered(alloc: Global, count: u32) -> Result<Vec<u8>, AllocError> {
 
 /// The offset of the id that is repeated.
 fn repeated(octets: &[u8]) -> Option<usize> {
-    match view(octets) {
+    match seen(octets) {
         Err(Fault::RepeatedId { offset }) => Some(offset),
         _ => None,
     }
@@ -40,12 +41,12 @@ fn repeated(octets: &[u8]) -> Option<usize> {
 fn scattered_ids_differ_until_one_comes_again(rt: HostRuntime) -> Result<(), Fail> {
     for count in [2, 7, 8, 9, 16, 17, 40, 41, 200, 700, 3_000, 12_000, 40_000] {
         let mut octets = scattered(rt.alloc(), count)?;
-        assert!(rt; view(octets.as_slice()).is_ok());
-        assert!(rt; is_canon_unsorted(octets.as_slice()));
+        assert!(rt; seen(octets.as_slice()).is_ok());
+        assert!(rt; is_canonical_unsorted(octets.as_slice()));
         let offset = octets.len().saturating_add(1);
         octets.extend_from_slice(b"[IQMP][z][z]")?;
         assert!(rt; repeated(octets.as_slice()) == Some(offset));
-        assert!(rt; !is_canon_unsorted(octets.as_slice()));
+        assert!(rt; !is_canonical_unsorted(octets.as_slice()));
     }
     Ok(())
 }
@@ -61,7 +62,7 @@ const SAME_HASH: [(&[u8], Option<usize>); 4] = [
 #[test]
 fn ids_of_one_hash_are_told_apart(rt: HostRuntime) {
     for (octets, offset) in SAME_HASH {
-        assert!(rt; view(octets).is_ok() == offset.is_none());
+        assert!(rt; seen(octets).is_ok() == offset.is_none());
         assert!(rt; repeated(octets) == offset);
     }
 }

@@ -1,10 +1,12 @@
 //! What octets are read as, and where they stop being a record.
 
+use crate::calls::seen;
+use std::alloc::{AllocError, Global};
 use std::test::Fail;
-use syslog_grammar::{Fault, Field, same_value, utf8, view};
+use syslog_grammar::{ElementView, Fault, Field, same_value, utf8};
 
 fn at(octets: &[u8]) -> Option<(Field, usize)> {
-    match view(octets) {
+    match seen(octets) {
         Err(Fault::Syntax { field, offset }) => Some((field, offset)),
         _ => None,
     }
@@ -15,7 +17,7 @@ const RFC: &[u8] =
 
 #[test]
 fn the_example_of_the_standard_is_read(rt: HostRuntime) -> Result<(), Fail> {
-    let seen = view(RFC).ok().ok_or("a fault")?;
+    let seen = seen(RFC).ok().ok_or("a fault")?;
     assert_eq!(rt; seen.priority().value(), 165);
     assert!(rt; seen.instant().map(|i| i.micros()) == Some(1_061_727_255_000_003));
     assert!(rt; seen.message() == b"%% It's time to make the do-nuts.".as_slice());
@@ -25,7 +27,7 @@ fn the_example_of_the_standard_is_read(rt: HostRuntime) -> Result<(), Fail> {
 
 #[test]
 fn the_words_of_the_example_are_read(rt: HostRuntime) -> Result<(), Fail> {
-    let seen = view(RFC).ok().ok_or("a fault")?;
+    let seen = seen(RFC).ok().ok_or("a fault")?;
     assert!(rt; seen.hostname() == Some(b"192.0.2.1".as_slice()));
     assert!(rt; seen.app_name() == Some(b"myproc".as_slice()));
     assert!(rt; seen.proc_id() == Some(b"8710".as_slice()));
@@ -125,7 +127,7 @@ const OTHER_FAULTS: [(&[u8], Option<Fault>); 9] = [
 #[test]
 fn the_instant_is_judged_before_the_ids(rt: HostRuntime) -> Result<(), Fail> {
     for (octets, fault) in OTHER_FAULTS {
-        assert!(rt; view(octets).err() == fault);
+        assert!(rt; seen(octets).err() == fault);
     }
     Ok(())
 }
@@ -146,40 +148,43 @@ fn texts_stop_at_their_offsets(rt: HostRuntime) -> Result<(), Fail> {
     Ok(())
 }
 
-#[test]
-fn elements_come_in_their_order(rt: HostRuntime) -> Result<(), Fail> {
-    let seen = view(b"<0>1 - - - - - [b k=\"1\"][a]")
-        .ok()
-        .ok_or("a fault")?;
-    let mut elements = seen.elements();
-    let first = elements.next().ok_or("no element")?;
-    assert!(rt; first.id() == b"b".as_slice());
-    let second = elements.next().ok_or("no element")?;
-    assert!(rt; second.id() == b"a".as_slice());
-    assert!(rt; elements.next().is_none());
+/// Appends an element and its parameters, as they are spelled.
+fn put_element(element: ElementView<'_>, out: &mut Vec<u8>) -> Result<(), AllocError> {
+    out.extend_from_slice(element.id())?;
+    for param in element.params() {
+        out.push(b' ')?;
+        out.extend_from_slice(param.name())?;
+        out.push(b'=')?;
+        out.extend_from_slice(param.raw())?;
+    }
+    out.push(b';')?;
     Ok(())
 }
 
-#[test]
-fn no_elements_are_lent_of_nilvalue(rt: HostRuntime) -> Result<(), Fail> {
-    let seen = view(b"<0>1 - - - - - -").ok().ok_or("a fault")?;
-    assert!(rt; seen.elements().next().is_none());
-    Ok(())
+/// The elements of a record, in the order in which they are lent.
+fn elements(alloc: Global, octets: &[u8]) -> Result<Vec<u8>, Fail> {
+    let seen = seen(octets).ok().ok_or("a fault")?;
+    let mut out = Vec::new(alloc);
+    for element in seen.elements() {
+        put_element(element, &mut out)?;
+    }
+    Ok(out)
 }
 
+const ELEMENTS: [(&[u8], &[u8]); 3] = [
+    (b"<0>1 - - - - - -", b""),
+    (b"<0>1 - - - - - [b k=\"1\"][a]", b"b k=1;a;"),
+    (
+        b"<0>1 - - - - - [b k=\"1\" l=\"x\\n\"][a]",
+        b"b k=1 l=x\\n;a;",
+    ),
+];
+
 #[test]
-fn parameters_come_in_their_order(rt: HostRuntime) -> Result<(), Fail> {
-    let seen = view(b"<0>1 - - - - - [b k=\"1\" l=\"x\\n\"][a]")
-        .ok()
-        .ok_or("a fault")?;
-    let element = seen.elements().next().ok_or("no element")?;
-    let mut params = element.params();
-    let first = params.next().ok_or("no parameter")?;
-    assert!(rt; first.name() == b"k".as_slice());
-    assert!(rt; first.raw() == b"1".as_slice());
-    let second = params.next().ok_or("no parameter")?;
-    assert!(rt; second.raw() == b"x\\n".as_slice());
-    assert!(rt; params.next().is_none());
+fn elements_and_parameters_come_in_their_order(rt: HostRuntime) -> Result<(), Fail> {
+    for (octets, lent) in ELEMENTS {
+        assert_eq!(rt; elements(rt.alloc(), octets)?.as_slice(), lent);
+    }
     Ok(())
 }
 
