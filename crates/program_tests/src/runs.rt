@@ -9,8 +9,9 @@ mod streams;
 mod trimmed;
 
 use commands::{MemoryFile, MemoryFiles, run};
-use driver::{DONE, FAULT, NO_MEMORY, REFUSED};
-use octet_devices::{FromRead, ToWrite};
+use driver::{DONE, FAULT, REFUSED};
+use octet_devices::{FromRead, Input, Output, ToWrite};
+use std::alloc::Global;
 use std::test::Fail;
 
 const HELLO: &[u8] = b"<165>1 - - - - - - hello";
@@ -23,12 +24,37 @@ struct Ran {
     notes: Vec<u8>,
 }
 
-fn run_over(rt: &HostRuntime, words: &[&str], input: &[u8]) -> Result<Ran, Fail> {
-    let other = MemoryFile {
-        name: "other",
-        octets: input,
-    };
-    run_with(rt, words, input, &[other])
+impl Ran {
+    // fails unless the run of these words had this status, output and notes
+    fn expect(&self, words: &[&str], status: u8, output: &[u8], notes: &[u8]) -> Result<(), Fail> {
+        if self.status == status
+            && self.output.as_slice() == output
+            && self.notes.as_slice() == notes
+        {
+            return Ok(());
+        }
+        Err(Fail::new(format_args!(
+            "{words:?}: {}, {:?}, {:?}",
+            self.status, self.output, self.notes
+        )))
+    }
+}
+
+// the status of a run over these devices and files
+fn status_of<R: Input, W: Output, N: Output>(
+    alloc: Global,
+    words: &[&str],
+    input: &mut R,
+    output: &mut W,
+    notes: &mut N,
+    files: &[MemoryFile<'_>],
+) -> Result<u8, Fail> {
+    let mut owned = Vec::new(alloc);
+    for word in words {
+        owned.push(String::from_str(alloc, word)?)?;
+    }
+    let mut files = MemoryFiles::new(files);
+    Ok(run(alloc, owned.as_slice(), input, output, notes, &mut files))
 }
 
 fn run_with(
@@ -38,27 +64,35 @@ fn run_with(
     files: &[MemoryFile<'_>],
 ) -> Result<Ran, Fail> {
     let alloc = rt.alloc();
-    let mut owned = Vec::new(alloc);
-    for word in words {
-        owned.push(String::from_str(alloc, word)?)?;
-    }
     let mut reader = FromRead::new(input);
     let mut writer = ToWrite::new(Vec::new(alloc));
     let mut notes = ToWrite::new(Vec::new(alloc));
-    let mut files = MemoryFiles::new(files);
-    let status = run(
-        alloc,
-        owned.as_slice(),
-        &mut reader,
-        &mut writer,
-        &mut notes,
-        &mut files,
-    );
+    let status = status_of(alloc, words, &mut reader, &mut writer, &mut notes, files)?;
     Ok(Ran {
         status,
         output: writer.into_inner(),
         notes: notes.into_inner(),
     })
+}
+
+fn run_over(rt: &HostRuntime, words: &[&str], input: &[u8]) -> Result<Ran, Fail> {
+    let other = MemoryFile {
+        name: "other",
+        octets: input,
+    };
+    run_with(rt, words, input, &[other])
+}
+
+// words and an input, and the status, the output and the notes
+type Row<'a> = (&'a [&'a str], &'a [u8], u8, &'a [u8], &'a [u8]);
+
+// fails at the first row whose run has another status, output or notes
+fn runs(rt: &HostRuntime, rows: &[Row<'_>]) -> Result<(), Fail> {
+    for (words, input, status, output, notes) in rows {
+        let ran = run_over(rt, words, input)?;
+        ran.expect(words, *status, output, notes)?;
+    }
+    Ok(())
 }
 
 #[test]
@@ -67,14 +101,21 @@ fn a_datagram_may_have_262_144_octets(rt: HostRuntime) -> Result<(), Fail> {
     for _ in HELLO.len()..262_144 {
         octets.push(b'x')?;
     }
-    let longest = run_over(&rt, &["convert"], octets.as_slice())?;
-    assert_eq!(rt; longest.status, DONE);
-    assert!(rt; longest.output == octets);
+    let words: &[&str] = &["convert"];
+    runs(&rt, &[(words, &octets, DONE, &octets, b"")])?;
     octets.push(b'x')?;
-    let longer = run_over(&rt, &["convert"], octets.as_slice())?;
-    assert_eq!(rt; longer.status, REFUSED);
-    assert!(rt; longer.output.is_empty());
-    assert_eq!(rt; longer.notes.as_slice(), b"1 too-long\n".as_slice());
+    runs(&rt, &[(words, &octets, REFUSED, b"", b"1 too-long\n")])
+}
+
+// fails at the first row that is not a usage fault, which has a text of its own
+fn usage_faults(rt: &HostRuntime, input: &[u8], rows: &[&[&str]]) -> Result<(), Fail> {
+    for words in rows {
+        let ran = run_over(rt, words, input)?;
+        if ran.notes.is_empty() {
+            return Err(Fail::new(format_args!("no notes on {words:?}")));
+        }
+        ran.expect(words, FAULT, b"", ran.notes.as_slice())?;
+    }
     Ok(())
 }
 
@@ -103,14 +144,7 @@ fn other_words_are_a_usage_fault(rt: HostRuntime) -> Result<(), Fail> {
         &["compact"],
         &["serve", "d"],
     ];
-    for words in rows {
-        let ran = run_over(&rt, words, HELLO)?;
-        assert_eq!(rt; ran.status, FAULT);
-        assert!(rt; ran.output.is_empty());
-        assert!(rt; !ran.notes.is_empty());
-        assert!(rt; ran.status != NO_MEMORY);
-    }
-    Ok(())
+    usage_faults(&rt, HELLO, &rows)
 }
 
 #[test]
@@ -124,10 +158,7 @@ fn what_only_a_program_has_is_a_fault(rt: HostRuntime) -> Result<(), Fail> {
         (&["serve", "d", "--unix", "s"], b"socket fault\n"),
     ];
     for (words, notes) in rows {
-        let ran = run_over(&rt, words, HELLO)?;
-        assert_eq!(rt; ran.status, FAULT);
-        assert!(rt; ran.output.is_empty());
-        assert_eq!(rt; ran.notes.as_slice(), notes);
+        runs(&rt, &[(words, HELLO, FAULT, b"", notes)])?;
     }
     Ok(())
 }

@@ -14,122 +14,165 @@ use syslog_value::{Facility, Instant, Severity};
 // forty zeros and a year
 const PADDED: &str = "00000000000000000000000000000000000000002001";
 
-// whether `check` reads frames so
-fn checks_by(rt: &HostRuntime, words: &[&str], reading: FrameReading) -> bool {
-    match read_words(rt.alloc(), words) {
-        Ok(Request::Frames(found)) => found.reading == reading,
-        _ => false,
-    }
+// what words ask for
+fn asked<'a>(rt: &HostRuntime, words: &'a [&'a str]) -> Result<Request<'a>, WordsFault> {
+    read_words(rt.alloc(), words)
 }
 
-// whether `check` reads whole frames under this clock
-fn checks_under(rt: &HostRuntime, words: &[&str], clock: Option<LegacyClock>) -> bool {
-    checks_by(rt, words, FrameReading { trim: false, clock })
+// how `check` reads frames
+fn checks(rt: &HostRuntime, words: &[&str]) -> Option<FrameReading> {
+    match asked(rt, words) {
+        Ok(Request::Frames(found)) => Some(found.reading),
+        _ => None,
+    }
 }
 
 // whether the words are no request
 fn refuses(rt: &HostRuntime, words: &[&str]) -> bool {
-    matches!(read_words(rt.alloc(), words), Err(WordsFault::Usage(_)))
+    matches!(asked(rt, words), Err(WordsFault::Usage(_)))
 }
 
-#[test]
-fn a_clock_has_a_year_and_a_zone(rt: HostRuntime) {
-    let utc = LegacyClock::new(2001, 0);
-    assert!(rt; checks_under(&rt, &["check"], None));
-    assert!(rt; checks_under(&rt, &["check", "--zone", "W0130"], None));
-    assert!(rt; checks_under(&rt, &["check", "--legacy", "2001"], utc));
-    assert!(rt; checks_under(&rt, &["check", "--legacy", PADDED], utc));
-    let first = LegacyClock::new(1, 90);
-    assert!(rt; checks_under(&rt, &["check", "--legacy", "1", "--zone", "E0130"], first));
-    let last = LegacyClock::new(9998, -1439);
-    assert!(rt; checks_under(&rt, &["check", "--legacy=9998", "--zone=W2359"], last));
-}
-
-#[test]
-fn a_clock_has_a_dialect(rt: HostRuntime) -> Result<(), Fail> {
-    let bsd = LegacyClock::new(2001, 0).ok_or("no clock")?;
-    let wide = Some(bsd.with_dialect(Dialect::Wide));
-    assert!(rt; checks_under(&rt, &["check", "--dialect", "wide"], None));
-    assert!(rt;
-        checks_under(
-            &rt,
-            &["check", "--legacy", "2001", "--dialect", "bsd"],
-            Some(bsd)
-        )
-    );
-    assert!(rt;
-        checks_under(
-            &rt,
-            &["check", "--legacy", "2001", "--dialect", "wide"],
-            wide
-        )
-    );
-    for dialect in ["", "Wide", "bsd ", "rfc3164"] {
-        assert!(rt; refuses(&rt, &["check", "--legacy", "2001", "--dialect", dialect]));
-        assert!(rt; refuses(&rt, &["archive", "--dialect", dialect]));
+// fails at the first row that is a request
+fn refuses_all(rt: &HostRuntime, rows: &[&[&str]]) -> Result<(), Fail> {
+    for words in rows {
+        if !refuses(rt, words) {
+            return Err(Fail::new(format_args!("taken: {words:?}")));
+        }
     }
     Ok(())
 }
 
 #[test]
-fn frames_are_trimmed_where_it_is_said(rt: HostRuntime) {
-    let trimmed = FrameReading {
-        trim: true,
-        clock: None,
-    };
-    let of_2001 = FrameReading {
-        trim: true,
-        clock: LegacyClock::new(2001, 0),
-    };
-    assert!(rt; checks_by(&rt, &["check", "--trim"], trimmed));
-    assert!(rt; checks_by(&rt, &["check", "--legacy", "2001", "--trim"], of_2001));
-    assert!(rt; refuses(&rt, &["check", "--trim=true"]));
-    assert!(rt; refuses(&rt, &["check", "--trim", "--trim"]));
-    assert!(rt; refuses(&rt, &["send", "--trim", "x"]));
+fn a_clock_has_a_year_and_a_zone(rt: HostRuntime) {
+    let utc = LegacyClock::new(2001, 0);
+    let first = LegacyClock::new(1, 90);
+    let last = LegacyClock::new(9998, -1439);
+    let rows: [(&[&str], Option<LegacyClock>); 6] = [
+        (&["check"], None),
+        (&["check", "--zone", "W0130"], None),
+        (&["check", "--legacy", "2001"], utc),
+        (&["check", "--legacy", PADDED], utc),
+        (&["check", "--legacy", "1", "--zone", "E0130"], first),
+        (&["check", "--legacy=9998", "--zone=W2359"], last),
+    ];
+    for (words, clock) in rows {
+        assert_eq!(rt;
+            checks(&rt, words),
+            Some(FrameReading::from(clock)),
+            "{words:?}"
+        );
+    }
 }
 
 #[test]
-fn other_years_and_zones_are_refused(rt: HostRuntime) {
+fn a_clock_has_a_dialect(rt: HostRuntime) -> Result<(), Fail> {
+    let bsd = LegacyClock::new(2001, 0);
+    let wide = bsd.map(|clock| clock.with_dialect(Dialect::Wide));
+    let rows: [(&[&str], Option<LegacyClock>); 3] = [
+        (&["check", "--dialect", "wide"], None),
+        (&["check", "--legacy", "2001", "--dialect", "bsd"], bsd),
+        (&["check", "--legacy", "2001", "--dialect", "wide"], wide),
+    ];
+    for (words, clock) in rows {
+        assert_eq!(rt;
+            checks(&rt, words),
+            Some(FrameReading::from(clock)),
+            "{words:?}"
+        );
+    }
+    for dialect in ["", "Wide", "bsd ", "rfc3164"] {
+        refuses_all(
+            &rt,
+            &[
+                &["check", "--legacy", "2001", "--dialect", dialect],
+                &["archive", "--dialect", dialect],
+            ],
+        )?;
+    }
+    Ok(())
+}
+
+#[test]
+fn frames_are_trimmed_where_it_is_said(rt: HostRuntime) -> Result<(), Fail> {
+    let rows: [(&[&str], Option<LegacyClock>); 2] = [
+        (&["check", "--trim"], None),
+        (
+            &["check", "--legacy", "2001", "--trim"],
+            LegacyClock::new(2001, 0),
+        ),
+    ];
+    for (words, clock) in rows {
+        let trimmed = FrameReading { trim: true, clock };
+        assert_eq!(rt; checks(&rt, words), Some(trimmed), "{words:?}");
+    }
+    refuses_all(
+        &rt,
+        &[
+            &["check", "--trim=true"],
+            &["check", "--trim", "--trim"],
+            &["send", "--trim", "x"],
+        ],
+    )
+}
+
+#[test]
+fn other_years_and_zones_are_refused(rt: HostRuntime) -> Result<(), Fail> {
     for year in [
         "0", "9999", "10000", "+5", "-5", "", "2001 ", "0x7d1", "\u{662}",
     ] {
-        assert!(rt; refuses(&rt, &["convert", "--legacy", year]));
+        refuses_all(&rt, &[&["convert", "--legacy", year]])?;
     }
     for zone in [
         "E2400", "E0060", "E100", "E00000", "e0000", "0000", "E+100", "", "E", "Z0000",
     ] {
-        assert!(rt; refuses(&rt, &["convert", "--legacy", "2001", "--zone", zone]));
-        assert!(rt; refuses(&rt, &["archive", "--zone", zone]));
+        refuses_all(
+            &rt,
+            &[
+                &["convert", "--legacy", "2001", "--zone", zone],
+                &["archive", "--zone", zone],
+            ],
+        )?;
     }
+    Ok(())
 }
 
-// whether a flag of `check` and one of `show` are read so
-fn has_flags(rt: &HostRuntime, words: &[&str], flag: bool) -> bool {
-    let Ok(Request::Frames(found)) = read_words(rt.alloc(), words) else {
-        return false;
+// a flag of `check`, or one of `show`
+fn flag(rt: &HostRuntime, words: &[&str]) -> Option<bool> {
+    let Ok(Request::Frames(found)) = asked(rt, words) else {
+        return None;
     };
     match found.command {
-        FrameCommand::Check { summary } => summary == flag,
-        FrameCommand::Show { json } => json == flag,
-        _ => false,
+        FrameCommand::Check { summary } => Some(summary),
+        FrameCommand::Show { json } => Some(json),
+        _ => None,
     }
 }
 
 #[test]
-fn check_has_a_summary_and_show_writes_json(rt: HostRuntime) {
-    assert!(rt; has_flags(&rt, &["check"], false));
-    assert!(rt; has_flags(&rt, &["check", "--trim", "--summary"], true));
-    assert!(rt; has_flags(&rt, &["show", "--trim"], false));
-    assert!(rt; has_flags(&rt, &["show", "--json", "--framing", "lf"], true));
-    assert!(rt; refuses(&rt, &["check", "--json"]));
-    assert!(rt; refuses(&rt, &["check", "--summary", "--summary"]));
-    assert!(rt; refuses(&rt, &["show", "--summary"]));
-    assert!(rt; refuses(&rt, &["show", "--json=true"]));
+fn check_has_a_summary_and_show_writes_json(rt: HostRuntime) -> Result<(), Fail> {
+    let rows: [(&[&str], bool); 4] = [
+        (&["check"], false),
+        (&["check", "--trim", "--summary"], true),
+        (&["show", "--trim"], false),
+        (&["show", "--json", "--framing", "lf"], true),
+    ];
+    for (words, expected) in rows {
+        assert_eq!(rt; flag(&rt, words), Some(expected), "{words:?}");
+    }
+    refuses_all(
+        &rt,
+        &[
+            &["check", "--json"],
+            &["check", "--summary", "--summary"],
+            &["show", "--summary"],
+            &["show", "--json=true"],
+        ],
+    )
 }
 
 // the command, the left file and the right one
 fn sides<'a>(rt: &HostRuntime, words: &'a [&'a str]) -> Option<(u8, &'a str, &'a str)> {
-    match read_words(rt.alloc(), words) {
+    match asked(rt, words) {
         Ok(Request::Files(files)) => match files {
             FileRequest::Merge { left, right } => Some((b'+', left, right)),
             FileRequest::Common { left, right } => Some((b'&', left, right)),
@@ -142,40 +185,52 @@ fn sides<'a>(rt: &HostRuntime, words: &'a [&'a str]) -> Option<(u8, &'a str, &'a
 }
 
 #[test]
-fn two_files_have_their_sides(rt: HostRuntime) {
+fn two_files_have_their_sides(rt: HostRuntime) -> Result<(), Fail> {
     for (name, sign) in [
         ("merge", b'+'),
         ("common", b'&'),
         ("minus", b'-'),
         ("diff", b'/'),
     ] {
-        assert!(rt; sides(&rt, &[name, "a", "b"]) == Some((sign, "a", "b")));
-        assert!(rt; sides(&rt, &[name, "--", "-b", "-"]) == Some((sign, "-b", "-")));
-        assert!(rt; refuses(&rt, &[name, "a"]));
-        assert!(rt; refuses(&rt, &[name, "a", "b", "c"]));
-        assert!(rt; refuses(&rt, &[name, "a", "b", "--trim"]));
+        assert_eq!(rt; sides(&rt, &[name, "a", "b"]), Some((sign, "a", "b")));
+        assert_eq!(rt;
+            sides(&rt, &[name, "--", "-b", "-"]),
+            Some((sign, "-b", "-"))
+        );
+        refuses_all(
+            &rt,
+            &[
+                &[name, "a"],
+                &[name, "a", "b", "c"],
+                &[name, "a", "b", "--trim"],
+            ],
+        )?;
     }
+    Ok(())
 }
 
 // whether a union is made of these files
 fn unites(rt: &HostRuntime, words: &[&str], files: &[&str]) -> bool {
-    match read_words(rt.alloc(), words) {
+    match asked(rt, words) {
         Ok(Request::Files(FileRequest::Union { files: found })) => found.as_slice() == files,
         _ => false,
     }
 }
 
 #[test]
-fn a_union_is_made_of_up_to_512_files(rt: HostRuntime) {
+fn a_union_is_made_of_up_to_512_files(rt: HostRuntime) -> Result<(), Fail> {
     let mut words = ["a"; 514];
     words[0] = "union";
-    assert!(rt; unites(&rt, &words[..2], &["a"]));
-    assert!(rt; unites(&rt, &["union", "b", "a", "b"], &["b", "a", "b"]));
-    assert!(rt; unites(&rt, &["union", "b", "--", "-a"], &["b", "-a"]));
-    assert!(rt; unites(&rt, &words[..513], &words[1..513]));
-    assert!(rt; refuses(&rt, &words));
-    assert!(rt; refuses(&rt, &["union"]));
-    assert!(rt; refuses(&rt, &["union", "a", "--trim"]));
+    let rows: [(&[&str], &[&str]); 4] = [
+        (&words[..2], &["a"]),
+        (&["union", "b", "a", "b"], &["b", "a", "b"]),
+        (&["union", "b", "--", "-a"], &["b", "-a"]),
+        (&words[..513], &words[1..513]),
+    ];
+    for (words, files) in rows {
+        assert!(rt; unites(&rt, words, files), "{words:?}");
+    }
+    refuses_all(&rt, &[&words, &["union"], &["union", "a", "--trim"]])
 }
 
 // whether these are the tests that `select` is given: one of each of the lists, and none of the others
@@ -185,7 +240,7 @@ fn selects(
     any: &[&[FieldTest<'_>]],
     none: &[FieldTest<'_>],
 ) -> bool {
-    let Ok(Request::Select { conditions }) = &read_words(rt.alloc(), words) else {
+    let Ok(Request::Select { conditions }) = &asked(rt, words) else {
         return false;
     };
     let mut same = conditions.any.len() == any.len() && conditions.none.as_slice() == none;
@@ -197,7 +252,7 @@ fn selects(
 
 // whether `select` is given these times
 fn selects_times(rt: &HostRuntime, words: &[&str], times: Times) -> bool {
-    match &read_words(rt.alloc(), words) {
+    match &asked(rt, words) {
         Ok(Request::Select { conditions }) => conditions.times == times,
         _ => false,
     }
@@ -214,36 +269,40 @@ fn range(from: Option<i64>, to: Option<i64>, undated: bool) -> Times {
 
 #[test]
 fn select_takes_times(rt: HostRuntime) {
+    let all = range(None, None, false);
     let from = Some(1_795_600_800_000_000);
-    let to = Some(253_402_300_799_999_999);
-    assert!(rt; selects_times(&rt, &["select"], range(None, None, false)));
-    let words = ["select", "--from", "2026-11-25T10:00:00Z"];
-    assert!(rt; selects_times(&rt, &words, range(from, None, false)));
-    let words = [
-        "select",
-        "--to=9999-12-31T23:59:59.999999Z",
-        "--from=2026-11-25T07:00:00.000000-03:00",
-        "--undated",
+    let from_then = range(from, None, false);
+    let from_midnight = range(Some(1_795_564_800_000_000), None, false);
+    let between = range(from, Some(253_402_300_799_999_999), true);
+    let rows: [(&[&str], Times); 9] = [
+        (&["select"], all),
+        (&["select", "--from", "2026-11-25T10:00:00Z"], from_then),
+        (
+            &[
+                "select",
+                "--to=9999-12-31T23:59:59.999999Z",
+                "--from=2026-11-25T07:00:00.000000-03:00",
+                "--undated",
+            ],
+            between,
+        ),
+        (&["select", "--from", "2026-11-25T10:00"], from_then),
+        (&["select", "--from", "2026-11-25T10:00:00"], from_then),
+        (
+            &["select", "--from", "2026-11-25T10:00:00.000000"],
+            from_then,
+        ),
+        (&["select", "--from", "2026-11-25"], from_midnight),
+        (&["select", "--only-undated"], Times::Undated),
+        (&["select", "--undated", "--only-undated"], Times::Undated),
     ];
-    assert!(rt; selects_times(&rt, &words, range(from, to, true)));
-    for time in [
-        "2026-11-25T10:00",
-        "2026-11-25T10:00:00",
-        "2026-11-25T10:00:00.000000",
-    ] {
-        assert!(rt; selects_times(&rt, &["select", "--from", time], range(from, None, false)));
+    for (words, times) in rows {
+        assert!(rt; selects_times(&rt, words, times), "{words:?}");
     }
-    let midnight = Some(1_795_564_800_000_000);
-    let words = ["select", "--from", "2026-11-25"];
-    assert!(rt; selects_times(&rt, &words, range(midnight, None, false)));
-    let words = ["select", "--only-undated"];
-    assert!(rt; selects_times(&rt, &words, Times::Undated));
-    let words = ["select", "--undated", "--only-undated"];
-    assert!(rt; selects_times(&rt, &words, Times::Undated));
 }
 
 #[test]
-fn other_times_are_refused(rt: HostRuntime) {
+fn other_times_are_refused(rt: HostRuntime) -> Result<(), Fail> {
     for time in [
         "-",
         "",
@@ -262,18 +321,25 @@ fn other_times_are_refused(rt: HostRuntime) {
         "0000-01-01T00:00:00+00:01",
         "9999-12-31T23:59:59-00:01",
     ] {
-        assert!(rt; refuses(&rt, &["select", "--from", time]));
-        assert!(rt; refuses(&rt, &["select", "--to", time]));
+        refuses_all(
+            &rt,
+            &[&["select", "--from", time], &["select", "--to", time]],
+        )?;
     }
     let time = "2026-11-25T10:00:00Z";
-    assert!(rt; refuses(&rt, &["select", "--only-undated", "--from", time]));
-    assert!(rt; refuses(&rt, &["select", "--to", time, "--only-undated"]));
-    assert!(rt; refuses(&rt, &["select", "--to", time, "--to", time]));
-    assert!(rt; refuses(&rt, &["select", "--undated", "--undated"]));
+    refuses_all(
+        &rt,
+        &[
+            &["select", "--only-undated", "--from", time],
+            &["select", "--to", time, "--only-undated"],
+            &["select", "--to", time, "--to", time],
+            &["select", "--undated", "--undated"],
+        ],
+    )
 }
 
 #[test]
-fn select_takes_fields(rt: HostRuntime) {
+fn select_takes_fields(rt: HostRuntime) -> Result<(), Fail> {
     assert!(rt; selects(&rt, &["select"], &[], &[]));
     let words = [
         "select",
@@ -299,15 +365,16 @@ fn select_takes_fields(rt: HostRuntime) {
         &[FieldTest::Element(b"a@1")],
     ];
     assert!(rt; selects(&rt, &words, &any, &[]));
-    for words in [
-        ["select", "--severity", "error"],
-        ["select", "--facility", "LOCAL7"],
-        ["select", "--trim", "--id=a"],
-        ["select", "--id=a", "b"],
-        ["select", "--severity=err", "--severity=err"],
-    ] {
-        assert!(rt; refuses(&rt, &words));
-    }
+    refuses_all(
+        &rt,
+        &[
+            &["select", "--severity", "error"],
+            &["select", "--facility", "LOCAL7"],
+            &["select", "--trim", "--id=a"],
+            &["select", "--id=a", "b"],
+            &["select", "--severity=err", "--severity=err"],
+        ],
+    )
 }
 
 #[test]
@@ -365,7 +432,7 @@ fn takes_up_to(rt: &HostRuntime, option: &str, most: usize) -> bool {
 }
 
 #[test]
-fn words_that_no_record_can_have_are_refused(rt: HostRuntime) {
+fn words_that_no_record_can_have_are_refused(rt: HostRuntime) -> Result<(), Fail> {
     for (option, most) in [
         ("--host", 255),
         ("--app", 48),
@@ -377,8 +444,8 @@ fn words_that_no_record_can_have_are_refused(rt: HostRuntime) {
         ("--not-host", 255),
         ("--not-app", 48),
     ] {
-        assert!(rt; takes_up_to(&rt, option, most));
-        assert!(rt; refuses(&rt, &["select", option, ""]));
+        assert!(rt; takes_up_to(&rt, option, most), "{option}");
+        refuses_all(&rt, &[&["select", option, ""]])?;
     }
     for option in [
         "--host",
@@ -389,83 +456,103 @@ fn words_that_no_record_can_have_are_refused(rt: HostRuntime) {
         "--not-host",
         "--not-app",
     ] {
-        for word in ["a b", "\u{7f}", "\u{e4}", "a\n"] {
-            assert!(rt; refuses(&rt, &["select", option, word]));
-        }
+        refuses_all(
+            &rt,
+            &[
+                &["select", option, "a b"],
+                &["select", option, "\u{7f}"],
+                &["select", option, "\u{e4}"],
+                &["select", option, "a\n"],
+            ],
+        )?;
     }
-    for id in ["a=b", "a]", "\"a\""] {
-        assert!(rt; refuses(&rt, &["select", "--id", id]));
-    }
-    assert!(rt; refuses(&rt, &["select", "--message", ""]));
-    assert!(rt; refuses(&rt, &["select", "--host=a", "--not-message", ""]));
+    refuses_all(
+        &rt,
+        &[
+            &["select", "--id", "a=b"],
+            &["select", "--id", "a]"],
+            &["select", "--id", "\"a\""],
+            &["select", "--message", ""],
+            &["select", "--host=a", "--not-message", ""],
+        ],
+    )?;
     assert!(rt; !refuses(&rt, &["select", "--message", "a b", "--host-like", "a b"]));
+    Ok(())
 }
 
 // the folder and the range that `read` is given
 fn reads<'a>(rt: &HostRuntime, words: &'a [&'a str]) -> Option<(&'a str, InRange)> {
-    match &read_words(rt.alloc(), words) {
+    match &asked(rt, words) {
         Ok(Request::Read { dir, range }) => Some((*dir, *range)),
         _ => None,
     }
 }
 
 #[test]
-fn read_takes_a_folder_and_a_range(rt: HostRuntime) {
+fn read_takes_a_folder_and_a_range(rt: HostRuntime) -> Result<(), Fail> {
+    let then = Instant::from_micros(1_795_600_800_000_000);
     let all = InRange {
         from: None,
         to: None,
         undated: false,
     };
-    assert!(rt; reads(&rt, &["read", "d"]) == Some(("d", all)));
     let since = InRange {
-        from: Instant::from_micros(1_795_600_800_000_000),
+        from: then,
         to: None,
         undated: true,
     };
-    let words = ["read", "--undated", "--from", "2026-11-25T10:00:00Z", "d"];
-    assert!(rt; reads(&rt, &words) == Some(("d", since)));
     let before = InRange {
         from: None,
-        to: Instant::from_micros(1_795_600_800_000_000),
+        to: then,
         undated: false,
     };
-    let words = ["read", "d", "--to=2026-11-25T10:00:00Z"];
-    assert!(rt; reads(&rt, &words) == Some(("d", before)));
-    assert!(rt; refuses(&rt, &["read"]));
-    assert!(rt; refuses(&rt, &["read", "d", "e"]));
-    assert!(rt; refuses(&rt, &["read", "d", "--to", "-"]));
-    assert!(rt; refuses(&rt, &["read", "d", "--only-undated"]));
-    assert!(rt; refuses(&rt, &["read", "d", "--host=a"]));
+    let rows: [(&[&str], InRange); 3] = [
+        (&["read", "d"], all),
+        (
+            &["read", "--undated", "--from", "2026-11-25T10:00:00Z", "d"],
+            since,
+        ),
+        (&["read", "d", "--to=2026-11-25T10:00:00Z"], before),
+    ];
+    for (words, range) in rows {
+        assert!(rt; reads(&rt, words) == Some(("d", range)), "{words:?}");
+    }
+    refuses_all(
+        &rt,
+        &[
+            &["read"],
+            &["read", "d", "e"],
+            &["read", "d", "--to", "-"],
+            &["read", "d", "--only-undated"],
+            &["read", "d", "--host=a"],
+        ],
+    )
 }
 
 #[test]
-fn a_store_is_compacted(rt: HostRuntime) {
-    assert!(rt;
-        matches!(
-            read_words(rt.alloc(), &["compact", "d"]),
-            Ok(Request::Compact { dir: "d" })
-        )
-    );
-    assert!(rt; refuses(&rt, &["compact"]));
-    assert!(rt; refuses(&rt, &["compact", "d", "e"]));
+fn a_store_is_compacted(rt: HostRuntime) -> Result<(), Fail> {
+    let asked = asked(&rt, &["compact", "d"]);
+    assert!(rt; matches!(asked, Ok(Request::Compact { dir: "d" })));
+    refuses_all(&rt, &[&["compact"], &["compact", "d", "e"]])
 }
 
 #[test]
-fn a_store_is_verified(rt: HostRuntime) {
-    assert!(rt;
-        matches!(
-            read_words(rt.alloc(), &["verify", "--", "-d"]),
-            Ok(Request::Verify { dir: "-d" })
-        )
-    );
-    assert!(rt; refuses(&rt, &["verify"]));
-    assert!(rt; refuses(&rt, &["verify", "d", "e"]));
-    assert!(rt; refuses(&rt, &["verify", "d", "--undated"]));
+fn a_store_is_verified(rt: HostRuntime) -> Result<(), Fail> {
+    let asked = asked(&rt, &["verify", "--", "-d"]);
+    assert!(rt; matches!(asked, Ok(Request::Verify { dir: "-d" })));
+    refuses_all(
+        &rt,
+        &[
+            &["verify"],
+            &["verify", "d", "e"],
+            &["verify", "d", "--undated"],
+        ],
+    )
 }
 
 // the folder that `archive` spills into, and the MiB of memory
 fn spills<'a>(rt: &HostRuntime, words: &'a [&'a str]) -> Option<(&'a str, u32)> {
-    match &read_words(rt.alloc(), words) {
+    match &asked(rt, words) {
         Ok(
             Request::SpillArchive {
                 dir,
@@ -479,33 +566,50 @@ fn spills<'a>(rt: &HostRuntime, words: &'a [&'a str]) -> Option<(&'a str, u32)> 
 
 // whether `archive` keeps all in memory
 fn archives(rt: &HostRuntime, words: &[&str]) -> bool {
-    match read_words(rt.alloc(), words) {
+    match asked(rt, words) {
         Ok(Request::Frames(found)) => found.command == FrameCommand::Archive,
         _ => false,
     }
 }
 
 #[test]
-fn an_archive_may_spill(rt: HostRuntime) {
-    assert!(rt; spills(&rt, &["archive", "--spill", "d"]) == Some(("d", 256)));
-    let words = ["archive", "--spill=d", "--memory=1", "--trim"];
-    assert!(rt; spills(&rt, &words) == Some(("d", 1)));
-    let words = ["archive", "--memory", "1048576", "--spill", ""];
-    assert!(rt; spills(&rt, &words) == Some(("", 1_048_576)));
+fn an_archive_may_spill(rt: HostRuntime) -> Result<(), Fail> {
+    let rows: [(&[&str], &str, u32); 3] = [
+        (&["archive", "--spill", "d"], "d", 256),
+        (&["archive", "--spill=d", "--memory=1", "--trim"], "d", 1),
+        (
+            &["archive", "--memory", "1048576", "--spill", ""],
+            "",
+            1_048_576,
+        ),
+    ];
+    for (words, dir, memory_mib) in rows {
+        assert_eq!(rt; spills(&rt, words), Some((dir, memory_mib)), "{words:?}");
+    }
     assert!(rt; archives(&rt, &["archive"]));
     assert!(rt; archives(&rt, &["archive", "--memory", "7"]));
     for memory in ["0", "1048577", "", "+1", "-1", "1k"] {
-        assert!(rt; refuses(&rt, &["archive", "--spill", "d", "--memory", memory]));
-        assert!(rt; refuses(&rt, &["archive", "--memory", memory]));
+        refuses_all(
+            &rt,
+            &[
+                &["archive", "--spill", "d", "--memory", memory],
+                &["archive", "--memory", memory],
+            ],
+        )?;
     }
-    assert!(rt; refuses(&rt, &["archive", "--spill", "d", "--spill", "d"]));
-    assert!(rt; refuses(&rt, &["check", "--memory", "7"]));
-    assert!(rt; refuses(&rt, &["collect", "udp", "514", "1", "--spill", "d"]));
+    refuses_all(
+        &rt,
+        &[
+            &["archive", "--spill", "d", "--spill", "d"],
+            &["check", "--memory", "7"],
+            &["collect", "udp", "514", "1", "--spill", "d"],
+        ],
+    )
 }
 
 // the listeners of `serve`
 fn listens(rt: &HostRuntime, words: &[&str], listeners: &[ListenerWords<'_>]) -> bool {
-    match &read_words(rt.alloc(), words) {
+    match &asked(rt, words) {
         Ok(Request::Serve { words: found }) => {
             found.dir == "d" && found.listeners.as_slice() == listeners
         }
@@ -549,7 +653,7 @@ fn serve_listens_on_sockets_kind_by_kind(rt: HostRuntime) -> Result<(), Fail> {
 }
 
 #[test]
-fn what_is_no_address_is_refused(rt: HostRuntime) {
+fn what_is_no_address_is_refused(rt: HostRuntime) -> Result<(), Fail> {
     for address in [
         "",
         "514",
@@ -563,29 +667,40 @@ fn what_is_no_address_is_refused(rt: HostRuntime) {
         "[::1]",
         "[127.0.0.1]:514",
     ] {
-        for option in ["--udp", "--counted", "--lf"] {
-            assert!(rt; refuses(&rt, &["serve", "d", option, address]));
-        }
+        refuses_all(
+            &rt,
+            &[
+                &["serve", "d", "--udp", address],
+                &["serve", "d", "--counted", address],
+                &["serve", "d", "--lf", address],
+            ],
+        )?;
     }
-    for kind in ["", "unix", "UDP", "3"] {
-        assert!(rt; refuses(&rt, &["serve", "d", "--inherited", kind]));
-    }
-    assert!(rt; refuses(&rt, &["serve", "d", "--unix", ""]));
-    assert!(rt; refuses(&rt, &["serve", "d"]));
-    assert!(rt; refuses(&rt, &["serve", "--unix", "p"]));
-    assert!(rt; refuses(&rt, &["serve", "d", "e", "--unix", "p"]));
+    refuses_all(
+        &rt,
+        &[
+            &["serve", "d", "--inherited", ""],
+            &["serve", "d", "--inherited", "unix"],
+            &["serve", "d", "--inherited", "UDP"],
+            &["serve", "d", "--inherited", "3"],
+            &["serve", "d", "--unix", ""],
+            &["serve", "d"],
+            &["serve", "--unix", "p"],
+            &["serve", "d", "e", "--unix", "p"],
+        ],
+    )
 }
 
 // what the server is to do
 fn serves(rt: &HostRuntime, words: &[&str]) -> Option<ServeOptions> {
-    match &read_words(rt.alloc(), words) {
+    match &asked(rt, words) {
         Ok(Request::Serve { words: found }) => Some(found.options),
         _ => None,
     }
 }
 
 #[test]
-fn serve_has_limits(rt: HostRuntime) {
+fn serve_has_limits(rt: HostRuntime) -> Result<(), Fail> {
     let mut options = ServeOptions {
         connections: 1024,
         per_peer: 256,
@@ -633,29 +748,42 @@ fn serve_has_limits(rt: HostRuntime) {
         "--dialect=x",
         "--summary",
     ] {
-        assert!(rt; refuses(&rt, &["serve", "d", "--unix", "p", word]));
+        refuses_all(&rt, &[&["serve", "d", "--unix", "p", word]])?;
     }
+    Ok(())
 }
 
 // the period of `digest`
 fn period(rt: &HostRuntime, words: &[&str]) -> Option<Period> {
-    match read_words(rt.alloc(), words) {
+    match asked(rt, words) {
         Ok(Request::Digest { period }) => Some(period),
         _ => None,
     }
 }
 
 #[test]
-fn digest_takes_a_period(rt: HostRuntime) {
-    assert!(rt; period(&rt, &["digest"]) == Some(Period::Day));
-    assert!(rt; period(&rt, &["digest", "--by", "day"]) == Some(Period::Day));
-    assert!(rt; period(&rt, &["digest", "--by=month"]) == Some(Period::Month));
-    assert!(rt; period(&rt, &["digest", "--by", "hour"]) == Some(Period::Hour));
-    for word in ["", "Day", "days", "week", "year"] {
-        assert!(rt; refuses(&rt, &["digest", "--by", word]));
+fn digest_takes_a_period(rt: HostRuntime) -> Result<(), Fail> {
+    let rows: [(&[&str], Period); 4] = [
+        (&["digest"], Period::Day),
+        (&["digest", "--by", "day"], Period::Day),
+        (&["digest", "--by=month"], Period::Month),
+        (&["digest", "--by", "hour"], Period::Hour),
+    ];
+    for (words, expected) in rows {
+        assert!(rt; period(&rt, words) == Some(expected), "{words:?}");
     }
-    assert!(rt; refuses(&rt, &["digest", "--by=day", "--by=day"]));
-    assert!(rt; refuses(&rt, &["digest", "day"]));
+    refuses_all(
+        &rt,
+        &[
+            &["digest", "--by", ""],
+            &["digest", "--by", "Day"],
+            &["digest", "--by", "days"],
+            &["digest", "--by", "week"],
+            &["digest", "--by", "year"],
+            &["digest", "--by=day", "--by=day"],
+            &["digest", "day"],
+        ],
+    )
 }
 
 // what `collect` takes
@@ -665,49 +793,68 @@ fn collected(rt: &HostRuntime, words: &[&str]) -> Result<Option<CollectWords>, u
 
 #[test]
 fn collect_takes_a_transport_a_port_and_a_count(rt: HostRuntime) {
-    let mut two = CollectWords {
+    let udp = CollectWords {
         transport: Transport::Udp,
         port: 514,
         count: 2,
         reading: FrameReading::from(None),
     };
-    assert!(rt; collected(&rt, &["collect", "udp", "514", "2"]) == Ok(Some(two)));
-    two.count = 1_000_000;
-    assert!(rt; collected(&rt, &["collect", "udp", "514", "1000000"]) == Ok(Some(two)));
-    two.transport = Transport::Lf;
-    two.count = 100_000;
-    two.port = 65_535;
-    two.reading.clock = LegacyClock::new(2001, -300);
-    let words = [
-        "collect", "lf", "65535", "100000", "--legacy", "2001", "--zone", "W0500",
+    let counted = CollectWords {
+        transport: Transport::Counted,
+        port: 65_535,
+        count: 100_000,
+        reading: FrameReading::from(None),
+    };
+    let mut many = udp;
+    many.count = 1_000_000;
+    let mut lines = counted;
+    lines.transport = Transport::Lf;
+    lines.reading.clock = LegacyClock::new(2001, -300);
+    let mut trimmed = counted;
+    trimmed.reading.trim = true;
+    let rows: [(&[&str], CollectWords); 5] = [
+        (&["collect", "udp", "514", "2"], udp),
+        (&["collect", "udp", "514", "1000000"], many),
+        (
+            &[
+                "collect", "lf", "65535", "100000", "--legacy", "2001", "--zone", "W0500",
+            ],
+            lines,
+        ),
+        (&["collect", "counted", "65535", "100000"], counted),
+        (
+            &["collect", "counted", "65535", "100000", "--trim"],
+            trimmed,
+        ),
     ];
-    assert!(rt; collected(&rt, &words) == Ok(Some(two)));
-    two.transport = Transport::Counted;
-    two.reading.clock = None;
-    assert!(rt; collected(&rt, &["collect", "counted", "65535", "100000"]) == Ok(Some(two)));
-    two.reading.trim = true;
-    let words = ["collect", "counted", "65535", "100000", "--trim"];
-    assert!(rt; collected(&rt, &words) == Ok(Some(two)));
+    for (words, taken) in rows {
+        assert!(rt; collected(&rt, words) == Ok(Some(taken)), "{words:?}");
+    }
 }
 
 #[test]
 fn other_values_of_collect_are_refused(rt: HostRuntime) {
-    assert!(rt; collected(&rt, &["collect", "udp", "0", "2"]) == Err(2));
-    assert!(rt; collected(&rt, &["collect", "udp", "65536", "2"]) == Err(2));
-    assert!(rt; collected(&rt, &["collect", "udp", "514", "0"]) == Err(2));
-    assert!(rt; collected(&rt, &["collect", "udp", "514", "1000001"]) == Err(2));
-    assert!(rt; collected(&rt, &["collect", "lf", "514", "100001"]) == Err(2));
-    assert!(rt; collected(&rt, &["collect", "tcp", "514", "2"]) == Err(2));
-    assert!(rt; collected(&rt, &["collect", "udp", "514", "2", "--zone", "E1"]) == Err(2));
-    assert!(rt; collected(&rt, &["collect", "udp", "514"]) == Err(2));
-    assert!(rt; collected(&rt, &["--version"]) == Err(2));
-    assert!(rt; collected(&rt, &["archive"]) == Ok(None));
-    assert!(rt; collected(&rt, &["check", "--legacy", "0"]) == Ok(None));
+    let rows: [(&[&str], Result<Option<CollectWords>, u8>); 11] = [
+        (&["collect", "udp", "0", "2"], Err(2)),
+        (&["collect", "udp", "65536", "2"], Err(2)),
+        (&["collect", "udp", "514", "0"], Err(2)),
+        (&["collect", "udp", "514", "1000001"], Err(2)),
+        (&["collect", "lf", "514", "100001"], Err(2)),
+        (&["collect", "tcp", "514", "2"], Err(2)),
+        (&["collect", "udp", "514", "2", "--zone", "E1"], Err(2)),
+        (&["collect", "udp", "514"], Err(2)),
+        (&["--version"], Err(2)),
+        (&["archive"], Ok(None)),
+        (&["check", "--legacy", "0"], Ok(None)),
+    ];
+    for (words, answer) in rows {
+        assert!(rt; collected(&rt, words) == answer, "{words:?}");
+    }
 }
 
 // whether this text is told in place of a request
 fn tells(rt: &HostRuntime, words: &[&str], text: &str) -> bool {
-    match &read_words(rt.alloc(), words) {
+    match &asked(rt, words) {
         Err(WordsFault::Usage(told)) => told.as_str() == text,
         _ => false,
     }
@@ -715,8 +862,8 @@ fn tells(rt: &HostRuntime, words: &[&str], text: &str) -> bool {
 
 #[test]
 fn the_version_is_a_text(rt: HostRuntime) {
-    assert!(rt; tells(&rt, &["--version"], "syslogbox 0.4.0\n"));
-    assert!(rt; tells(&rt, &["-V"], "syslogbox 0.4.0\n"));
+    assert!(rt; tells(&rt, &["--version"], "syslogbox 0.5.0\n"));
+    assert!(rt; tells(&rt, &["-V"], "syslogbox 0.5.0\n"));
 }
 
 // words whose values are not all taken, and the text that names the first such option

@@ -1,6 +1,6 @@
 //! Archives that are made, joined and migrated.
 
-use super::{run_over, run_with};
+use super::{Row, run_over, run_with, runs};
 use commands::MemoryFile;
 use driver::{DONE, FAULT, REFUSED};
 use std::test::Fail;
@@ -18,9 +18,6 @@ const ACB: &[u8] =
 const B: &[u8] = b"45 <14>1 2024-02-29T23:30:00.000000Z h a - - - y";
 
 const BA: &[u8] = b"45 <14>1 2024-02-29T23:30:00.000000Z h a - - - y19 <13>1 - h a - - - x";
-
-// words and an input, and the status, the output and the notes
-type Row<'a> = (&'a [&'a str], &'a [u8], u8, &'a [u8], &'a [u8]);
 
 // two files, and the status, the output and the notes
 type Merge<'a> = (&'a [u8], &'a [u8], u8, &'a [u8], &'a [u8]);
@@ -92,13 +89,7 @@ fn the_records_of_an_input_are_archived(rt: HostRuntime) -> Result<(), Fail> {
         ),
         (&["archive", "--framing", "counted"], BA, DONE, AB, b""),
     ];
-    for (words, input, status, output, notes) in rows {
-        let ran = run_over(&rt, words, input)?;
-        assert_eq!(rt; ran.status, status);
-        assert_eq!(rt; ran.output.as_slice(), output);
-        assert_eq!(rt; ran.notes.as_slice(), notes);
-    }
-    Ok(())
+    runs(&rt, &rows)
 }
 
 #[test]
@@ -108,19 +99,15 @@ fn a_line_that_is_too_long_costs_no_record(rt: HostRuntime) -> Result<(), Fail> 
         input.push(b'a')?;
     }
     input.extend_from_slice(b"\n<0>1 - - - - - -")?;
-    let words = ["archive", "--framing", "lf"];
-    let ran = run_over(&rt, &words, input.as_slice())?;
+    let words: &[&str] = &["archive", "--framing", "lf"];
     let lines = b"1 syntax priority 0\n2 syntax priority 0\n3 too-long\nunterminated 262149\n";
-    assert_eq!(rt; ran.status, REFUSED);
-    assert!(rt; ran.output.is_empty());
-    assert_eq!(rt; ran.notes.as_slice(), lines.as_slice());
+    runs(&rt, &[(words, &input, REFUSED, b"", lines)])?;
     input.push(b'\n')?;
-    let ran = run_over(&rt, &words, input.as_slice())?;
     let lines = b"1 syntax priority 0\n2 syntax priority 0\n3 too-long\n";
-    assert_eq!(rt; ran.status, REFUSED);
-    assert_eq!(rt; ran.output.as_slice(), b"16 <0>1 - - - - - -".as_slice());
-    assert_eq!(rt; ran.notes.as_slice(), lines.as_slice());
-    Ok(())
+    runs(
+        &rt,
+        &[(words, &input, REFUSED, b"16 <0>1 - - - - - -", lines)],
+    )
 }
 
 #[test]
@@ -184,9 +171,7 @@ fn two_archives_are_joined(rt: HostRuntime) -> Result<(), Fail> {
             },
         ];
         let ran = run_with(&rt, &["merge", "-", "b"], b"x", &files)?;
-        assert_eq!(rt; ran.status, status);
-        assert_eq!(rt; ran.output.as_slice(), output);
-        assert_eq!(rt; ran.notes.as_slice(), notes);
+        ran.expect(&["merge"], status, output, notes)?;
     }
     Ok(())
 }
@@ -205,9 +190,7 @@ fn a_name_without_a_file_is_reported(rt: HostRuntime) -> Result<(), Fail> {
     ];
     for (words, notes) in rows {
         let ran = run_with(&rt, words, b"", &files)?;
-        assert_eq!(rt; ran.status, FAULT);
-        assert!(rt; ran.output.is_empty());
-        assert_eq!(rt; ran.notes.as_slice(), notes);
+        ran.expect(words, FAULT, b"", notes)?;
     }
     Ok(())
 }
@@ -246,9 +229,7 @@ fn an_old_archive_is_migrated(rt: HostRuntime) -> Result<(), Fail> {
     for (octets, status, output, notes) in rows {
         let files = [MemoryFile { name: "a", octets }];
         let ran = run_with(&rt, &["migrate", "a"], b"", &files)?;
-        assert_eq!(rt; ran.status, status);
-        assert_eq!(rt; ran.output.as_slice(), output);
-        assert_eq!(rt; ran.notes.as_slice(), notes);
+        ran.expect(&["migrate"], status, output, notes)?;
     }
     Ok(())
 }
@@ -269,9 +250,7 @@ fn archives_of_two_routes_are_joined(rt: HostRuntime) -> Result<(), Fail> {
         },
     ];
     let ran = run_with(&rt, &["merge", "one", "two"], b"", &files)?;
-    assert_eq!(rt; ran.status, DONE);
-    assert_eq!(rt; ran.output.as_slice(), ACB);
-    Ok(())
+    ran.expect(&["merge"], DONE, ACB, b"")
 }
 
 // three records: of no host, of fw-1, and of web
@@ -320,9 +299,7 @@ fn records_that_meet_conditions_are_selected(rt: HostRuntime) -> Result<(), Fail
         (&["select", "--host=web", "--not-app=su"], b""),
     ];
     for (words, output) in rows {
-        let ran = run_over(&rt, words, HOSTS)?;
-        assert_eq!(rt; ran.status, DONE);
-        assert_eq!(rt; ran.output.as_slice(), output);
+        runs(&rt, &[(words, HOSTS, DONE, output, b"")])?;
     }
     Ok(())
 }

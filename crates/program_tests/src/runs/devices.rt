@@ -1,7 +1,6 @@
 //! Devices that fail, each at some offset.
 
-use super::{HELLO, Ran};
-use commands::{MemoryFile, MemoryFiles, run};
+use super::{HELLO, Ran, status_of};
 use driver::{DONE, FAULT};
 use octet_devices::{FromRead, Fuse, ToWrite};
 use std::test::Fail;
@@ -23,23 +22,10 @@ fn run_on_fuses(
     lines: u64,
 ) -> Result<Ran, Fail> {
     let alloc = rt.alloc();
-    let mut owned = Vec::new(alloc);
-    for word in words {
-        owned.push(String::from_str(alloc, word)?)?;
-    }
     let mut reader = Fuse::new(FromRead::new(input), u64::MAX, reads);
     let mut writer = Fuse::new(ToWrite::new(Vec::new(alloc)), writes, u64::MAX);
     let mut notes = Fuse::new(ToWrite::new(Vec::new(alloc)), lines, u64::MAX);
-    let files: [MemoryFile<'static>; 0] = [];
-    let mut files = MemoryFiles::new(&files);
-    let status = run(
-        alloc,
-        owned.as_slice(),
-        &mut reader,
-        &mut writer,
-        &mut notes,
-        &mut files,
-    );
+    let status = status_of(alloc, words, &mut reader, &mut writer, &mut notes, &[])?;
     Ok(Ran {
         status,
         output: writer.into_inner().into_inner(),
@@ -117,12 +103,8 @@ fn a_device_that_fails_is_reported(rt: HostRuntime) -> Result<(), Fail> {
     ];
     for (words, input, (reads, writes, lines), output, notes) in rows {
         let ran = run_on_fuses(&rt, words, input, reads, writes, lines)?;
-        assert_eq!(rt; ran.status, FAULT);
-        assert_eq!(rt; ran.output.as_slice(), output);
-        assert_eq!(rt; ran.notes.as_slice(), notes);
+        ran.expect(words, FAULT, output, notes)?;
     }
     let ran = run_on_fuses(&rt, &["convert"], HELLO, 2, most, most)?;
-    assert_eq!(rt; ran.status, DONE);
-    assert_eq!(rt; ran.output.as_slice(), HELLO);
-    Ok(())
+    ran.expect(&["convert"], DONE, HELLO, b"")
 }

@@ -1,7 +1,7 @@
 //! Legacy packets, under a clock.
 
-use super::run_over;
-use driver::{DONE, FAULT, REFUSED};
+use super::{Row, runs, usage_faults};
+use driver::{DONE, REFUSED};
 use std::test::Fail;
 
 // a year, a zone, a packet and the canonical octets of its record
@@ -74,10 +74,8 @@ const CONVERTED: [(&str, &str, &[u8], &[u8]); 13] = [
 #[test]
 fn legacy_packets_are_converted(rt: HostRuntime) -> Result<(), Fail> {
     for (year, zone, packet, canonical) in CONVERTED {
-        let ran = run_over(&rt, &["convert", "--legacy", year, "--zone", zone], packet)?;
-        assert_eq!(rt; ran.status, DONE);
-        assert_eq!(rt; ran.output.as_slice(), canonical);
-        assert!(rt; ran.notes.is_empty());
+        let words: &[&str] = &["convert", "--legacy", year, "--zone", zone];
+        runs(&rt, &[(words, packet, DONE, canonical, b"")])?;
     }
     Ok(())
 }
@@ -89,14 +87,16 @@ fn legacy_packets_are_refused(rt: HostRuntime) -> Result<(), Fail> {
         (b"<13>\xef\xbb\xbf\xe0\x80", b"1 legacy-not-utf8 8\n"),
         (b"<13>1 x", b"1 syntax timestamp 6\n"),
     ];
+    let check: &[&str] = &["check", "--legacy", "2001"];
+    let archive: &[&str] = &["archive", "--legacy", "2001"];
     for (packet, line) in rows {
-        let checked = run_over(&rt, &["check", "--legacy", "2001"], packet)?;
-        assert_eq!(rt; checked.status, REFUSED);
-        assert_eq!(rt; checked.output.as_slice(), line);
-        let archived = run_over(&rt, &["archive", "--legacy", "2001"], packet)?;
-        assert_eq!(rt; archived.status, REFUSED);
-        assert!(rt; archived.output.is_empty());
-        assert_eq!(rt; archived.notes.as_slice(), line);
+        runs(
+            &rt,
+            &[
+                (check, packet, REFUSED, line, b""),
+                (archive, packet, REFUSED, b"", line),
+            ],
+        )?;
     }
     Ok(())
 }
@@ -104,20 +104,23 @@ fn legacy_packets_are_refused(rt: HostRuntime) -> Result<(), Fail> {
 #[test]
 fn legacy_frames_are_archived(rt: HostRuntime) -> Result<(), Fail> {
     let input = b"<13>Feb  5 17:32:18 h a: y\n<12>1 - - - - - - x\nz\n";
-    let words = ["archive", "--framing", "lf", "--legacy", "2001"];
-    let ran = run_over(&rt, &words, input)?;
-    assert_eq!(rt; ran.status, DONE);
-    assert_eq!(rt;
-        ran.output.as_slice(),
-        b"19 <12>1 - - - - - - x19 <13>1 - - - - - - z45 <13>1 2001-02-05T17:32:18.000000Z h a - - - y".as_slice(),
-    );
-    let plain = run_over(&rt, &["check", "--framing", "lf"], input)?;
-    assert_eq!(rt; plain.status, REFUSED);
-    assert_eq!(rt;
-        plain.output.as_slice(),
-        b"1 syntax version 4\n2 ok\n3 syntax priority 0\n".as_slice(),
-    );
-    Ok(())
+    let rows: [Row<'_>; 2] = [
+        (
+            &["archive", "--framing", "lf", "--legacy", "2001"],
+            input,
+            DONE,
+            b"19 <12>1 - - - - - - x19 <13>1 - - - - - - z45 <13>1 2001-02-05T17:32:18.000000Z h a - - - y",
+            b"",
+        ),
+        (
+            &["check", "--framing", "lf"],
+            input,
+            REFUSED,
+            b"1 syntax version 4\n2 ok\n3 syntax priority 0\n",
+            b"",
+        ),
+    ];
+    runs(&rt, &rows)
 }
 
 #[test]
@@ -134,11 +137,5 @@ fn a_clock_that_is_none_is_a_usage_fault(rt: HostRuntime) -> Result<(), Fail> {
         &["archive", "--zone", "e0000"],
         &["collect", "udp", "5514", "2"],
     ];
-    for words in rows {
-        let ran = run_over(&rt, words, b"")?;
-        assert_eq!(rt; ran.status, FAULT);
-        assert!(rt; ran.output.is_empty());
-        assert!(rt; !ran.notes.is_empty());
-    }
-    Ok(())
+    usage_faults(&rt, b"", &rows)
 }

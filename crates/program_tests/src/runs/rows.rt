@@ -1,6 +1,6 @@
 //! One datagram: what is written, and what is reported.
 
-use super::{HELLO, run_over};
+use super::{HELLO, Row, runs};
 use driver::{DONE, REFUSED};
 use std::test::Fail;
 
@@ -138,33 +138,32 @@ const REFUSED_ROWS: [(&[u8], &[u8]); 37] = [
 
 #[test]
 fn a_record_is_converted(rt: HostRuntime) -> Result<(), Fail> {
+    let (convert, check): (&[&str], &[&str]) = (&["convert"], &["check"]);
     for (input, output) in CONVERTED {
-        let ran = run_over(&rt, &["convert"], input)?;
-        assert_eq!(rt; ran.status, DONE);
-        assert_eq!(rt; ran.output.as_slice(), output);
-        assert!(rt; ran.notes.is_empty());
-        let checked = run_over(&rt, &["check"], input)?;
-        assert_eq!(rt; checked.status, DONE);
-        assert_eq!(rt; checked.output.as_slice(), b"1 ok\n".as_slice());
-        let again = run_over(&rt, &["convert"], output)?;
-        assert_eq!(rt; again.output.as_slice(), output);
+        runs(
+            &rt,
+            &[
+                (convert, input, DONE, output, b""),
+                (check, input, DONE, b"1 ok\n", b""),
+                (convert, output, DONE, output, b""),
+            ],
+        )?;
     }
     Ok(())
 }
 
 #[test]
 fn what_is_no_record_is_refused_with_its_offset(rt: HostRuntime) -> Result<(), Fail> {
+    let (convert, check, show): (&[&str], &[&str], &[&str]) = (&["convert"], &["check"], &["show"]);
     for (input, line) in REFUSED_ROWS {
-        let checked = run_over(&rt, &["check"], input)?;
-        assert_eq!(rt; checked.status, REFUSED);
-        assert_eq!(rt; checked.output.as_slice(), line);
-        assert!(rt; checked.notes.is_empty());
-        for word in ["convert", "show"] {
-            let ran = run_over(&rt, &[word], input)?;
-            assert_eq!(rt; ran.status, REFUSED);
-            assert!(rt; ran.output.is_empty());
-            assert_eq!(rt; ran.notes.as_slice(), line);
-        }
+        runs(
+            &rt,
+            &[
+                (check, input, REFUSED, line, b""),
+                (convert, input, REFUSED, b"", line),
+                (show, input, REFUSED, b"", line),
+            ],
+        )?;
     }
     Ok(())
 }
@@ -178,15 +177,17 @@ fn a_name_has_at_most_255_octets(rt: HostRuntime) -> Result<(), Fail> {
     let mut longer = Vec::from_slice(rt.alloc(), input.as_slice())?;
     input.extend_from_slice(b" - - - -")?;
     longer.extend_from_slice(b"a - - - -")?;
-    let ran = run_over(&rt, &["convert"], input.as_slice())?;
-    assert_eq!(rt; ran.status, DONE);
-    assert!(rt; ran.output == input);
-    let ran = run_over(&rt, &["check"], longer.as_slice())?;
-    assert_eq!(rt;
-        ran.output.as_slice(),
-        b"1 syntax hostname 262\n".as_slice()
-    );
-    Ok(())
+    let rows: [Row<'_>; 2] = [
+        (&["convert"], &input, DONE, &input, b""),
+        (
+            &["check"],
+            &longer,
+            REFUSED,
+            b"1 syntax hostname 262\n",
+            b"",
+        ),
+    ];
+    runs(&rt, &rows)
 }
 
 #[test]
@@ -201,11 +202,9 @@ fn the_fields_of_a_record_are_shown(rt: HostRuntime) -> Result<(), Fail> {
             b"record 1\npriority 34 auth crit\ntime 2003-10-11T22:14:15.003000Z\nhost h\napp su\nproc 7\nmsgid ID\nelement a\nparam c \"\\x22\"\nparam c \"~ \"\nelement b\nmessage utf8 \"\\xc3\\xa9\\x0a\"\n",
         ),
     ];
+    let show: &[&str] = &["show"];
     for (input, output) in rows {
-        let ran = run_over(&rt, &["show"], input)?;
-        assert_eq!(rt; ran.status, DONE);
-        assert_eq!(rt; ran.output.as_slice(), output);
-        assert!(rt; ran.notes.is_empty());
+        runs(&rt, &[(show, input, DONE, output, b"")])?;
     }
     Ok(())
 }

@@ -1,11 +1,8 @@
 //! Streams of frames, and records that are converted from one framing to another.
 
-use super::run_over;
+use super::{Row, run_over, runs};
 use driver::{DONE, REFUSED};
 use std::test::Fail;
-
-// words and an input, and the status, the output and the notes
-type Row<'a> = (&'a [&'a str], &'a [u8], u8, &'a [u8], &'a [u8]);
 
 #[test]
 fn each_frame_of_a_stream_is_handled(rt: HostRuntime) -> Result<(), Fail> {
@@ -103,13 +100,7 @@ fn each_frame_of_a_stream_is_handled(rt: HostRuntime) -> Result<(), Fail> {
             b"1 syntax priority 0\n",
         ),
     ];
-    for (words, input, status, output, notes) in rows {
-        let ran = run_over(&rt, words, input)?;
-        assert_eq!(rt; ran.status, status);
-        assert_eq!(rt; ran.output.as_slice(), output);
-        assert_eq!(rt; ran.notes.as_slice(), notes);
-    }
-    Ok(())
+    runs(&rt, &rows)
 }
 
 #[test]
@@ -119,17 +110,12 @@ fn a_line_that_is_too_long_costs_no_other(rt: HostRuntime) -> Result<(), Fail> {
         input.push(b'a')?;
     }
     input.extend_from_slice(b"\n<0>1 - - - - - -")?;
-    let words = ["check", "--framing", "lf"];
-    let ran = run_over(&rt, &words, input.as_slice())?;
+    let words: &[&str] = &["check", "--framing", "lf"];
     let lines = b"1 syntax priority 0\n2 syntax priority 0\n3 too-long\nunterminated 262149\n";
-    assert_eq!(rt; ran.status, REFUSED);
-    assert_eq!(rt; ran.output.as_slice(), lines.as_slice());
+    runs(&rt, &[(words, &input, REFUSED, lines, b"")])?;
     input.push(b'\n')?;
-    let ran = run_over(&rt, &words, input.as_slice())?;
     let lines = b"1 syntax priority 0\n2 syntax priority 0\n3 too-long\n4 ok\n";
-    assert_eq!(rt; ran.status, REFUSED);
-    assert_eq!(rt; ran.output.as_slice(), lines.as_slice());
-    Ok(())
+    runs(&rt, &[(words, &input, REFUSED, lines, b"")])
 }
 
 #[test]
@@ -140,10 +126,9 @@ fn a_canonical_record_may_be_too_long_for_a_frame(rt: HostRuntime) -> Result<(),
     }
     input.extend_from_slice(b"\"]")?;
     assert_eq!(rt; input.len(), 262_143);
-    let ran = run_over(&rt, &["convert", "--to", "counted"], input.as_slice())?;
-    assert_eq!(rt; ran.status, REFUSED);
-    assert!(rt; ran.output.is_empty());
-    assert_eq!(rt; ran.notes.as_slice(), b"1 canonical-too-long\n".as_slice());
+    let to_counted: &[&str] = &["convert", "--to", "counted"];
+    let too_long = b"1 canonical-too-long\n";
+    runs(&rt, &[(to_counted, &input, REFUSED, b"", too_long)])?;
     let ran = run_over(&rt, &["convert"], input.as_slice())?;
     assert_eq!(rt; ran.status, DONE);
     assert_eq!(rt; ran.output.len(), 393_203);
