@@ -61,32 +61,27 @@ def is_kept(server, number):
     return until(lambda: {record, datagram} <= server.held(), 2)
 
 
-def long_halves(program, results, path):
+def long_halves(runs, name):
     """Frames that are not whole take more memory than there is: some of their connections are closed, and no other is."""
-    name = "most of a long frame"
     words = [*any_port("counted"), *any_port("udp"), "--commit", 5, "--connections", 2_048]
-    with Runs(program, results, path).until_eof(*words, front=limited()) as server:
+    with runs.until_eof(*words, front=limited()) as server:
         silent = [half_sent(server, n) for n in range(CONNECTIONS)]
-        results.check(f"{name}: it is told that connections were closed",
-                      until(lambda: any(b" closed: want of memory" in line for line in server.lines())), str(server.lines()[-3:]))
-        results.check(f"{name}: what others send is kept", any(is_kept(server, number) for number in range(10)),
-                      str(server.lines()[-3:]))
-        results.check(f"{name}: the server goes on", server.process.poll() is None, str(server.lines()[-3:]))
+        closed = until(lambda: any(b" closed: want of memory" in line for line in server.lines()))
+        runs.results.check(f"{name}: it is told that connections were closed", closed, str(server.lines()[-3:]))
+        kept = any(is_kept(server, number) for number in range(10))
+        runs.results.check(f"{name}: what others send is kept", kept, str(server.lines()[-3:]))
         for one in silent:
             one.close()
+        runs.results.same(f"{name}: the status", server.end()[0], 1)
 
 
-def large_set(program, results, path):
+def large_set(runs, name, *words):
     """More records come than there is memory for, before a checkpoint is due: all are kept."""
-    name = "a large set"
     records = [b"<14>1 - h large - - - %d %s" % (number, b"y" * 8_000) for number in range(25_000)]
-    words = [*any_port("counted"), "--commit", 20, "--checkpoint", 2_048]
-    with Runs(program, results, path).until_eof(*words, front=limited()) as server:
+    with runs.until_eof(*any_port("counted"), *words, "--checkpoint", 2_048, front=limited()) as server:
         server.send("counted", counted(records))
-        results.check(f"{name}: all is kept", until(lambda: len(server.held()) == len(records)), str(server.lines()[-3:]))
-        results.check(f"{name}: the server goes on", server.process.poll() is None, str(server.lines()[-3:]))
-        results.check(f"{name}: no connection was closed", not any(b"closed" in line for line in server.lines()),
-                      str(server.lines()[-3:]))
+        runs.results.check(f"{name}: all is kept", until(lambda: len(server.held()) == len(records)), str(server.lines()[-3:]))
+        runs.ends(name, server, 0)
 
 
 def try_all(program, results):
@@ -100,12 +95,16 @@ def try_all(program, results):
                 beside(Runs(program, results, path), name, first, *records)
             except Exception as error:  # a server that has ended too early
                 results.check(f"{name}: it comes to its end", False, repr(error))
-    for case in long_halves, large_set:
+    for case, name, *words in [
+        (long_halves, "most of a long frame"),
+        (large_set, "a large set, committed often", "--commit", 20),
+        (large_set, "a large set, committed each second", "--commit", 1_000),
+    ]:
         with tempfile.TemporaryDirectory() as path:
             try:
-                case(program, results, path)
+                case(Runs(program, results, path), name, *words)
             except Exception as error:  # a server that has ended too early
-                results.check(f"{case.__name__}: it comes to its end", False, repr(error))
+                results.check(f"{name}: it comes to its end", False, repr(error))
 
 
 def scarce_memory(program, results):
