@@ -19,9 +19,6 @@ pub struct DiskKeeper<D: Disk> {
     disk: WatchedDisk<D>,
 }
 
-// How often memory is freed so that a set can be added.
-const ROUNDS_MAX: u32 = 64;
-
 // What a fault of the store means to a server.
 fn fault_of(fault: StoreFault) -> KeepFault {
     match fault {
@@ -131,7 +128,7 @@ impl<D: Disk + Drop> DiskKeeper<D> {
     }
 
     // Adds all records of a set. Where there is no memory for one, that of those before it is freed, and
-    // it goes on with that one.
+    // it goes on with that one, as long as there is any to be freed.
     fn add_set(&mut self, alloc: Global, fresh: &mut SparedSet) -> Result<Taken, KeepFault>
         ensures same { pages_of fresh.new ≡ pages_of fresh.old }
         ensures all { OnOk result ((k : Kept) → KeepsOn self.old k
@@ -141,7 +138,7 @@ impl<D: Disk + Drop> DiskKeeper<D> {
     {
         let mut taken = Taken { new: 0, held: 0 };
         let mut place = Place::first();
-        for _round in 0..ROUNDS_MAX {
+        for _round in 0..u64::MAX {
             match add_from(
                 alloc,
                 &mut self.store,
@@ -150,8 +147,8 @@ impl<D: Disk + Drop> DiskKeeper<D> {
                 &mut taken,
             ) {
                 Ok(()) => return Ok(taken),
-                Err(KeepFault::Memory) => {
-                    fresh.give_up(alloc);
+                Err(KeepFault::Memory) if self.store.len() > 0 || !fresh.is_short() => {
+                    fresh.give_up();
                     self.free_memory(alloc)?;
                 }
                 Err(fault) => return Err(fault),

@@ -11,8 +11,12 @@ use std::alloc::{AllocError, Global};
 use syslog_grammar::RecordView;
 use syslog_value::Record;
 
-// How many octets of memory are held back.
-const SPARE: usize = 4 << 20;
+// Memory is held back in so many parts, each as large as what pages take at once: so it is found again
+// where it was given up.
+const PARTS: usize = 4;
+
+// How many octets each has.
+const PART: usize = 1 << 20;
 
 /// A set of records, and memory that is held back for it, as far as there was some. Where a record has
 /// no room, what is held back is given up, and it is tried once more. Memory is short then, until the
@@ -20,15 +24,19 @@ const SPARE: usize = 4 << 20;
 #[derive(Drop)]
 pub struct SparedSet {
     pages: PagedArchive,
-    spare: Vec<u8>,
+    spare: Vec<Vec<u8>>,
     short: bool,
 }
 
-// Holds memory back, as far as there is some.
-fn hold_back(alloc: Global) -> Vec<u8> {
-    match Vec::with_capacity(alloc, SPARE) {
-        Ok(spare) => spare,
-        Err(_) => Vec::new(alloc),
+// Holds back what is missing, as far as there is some.
+fn hold_back(alloc: Global, spare: &mut Vec<Vec<u8>>) {
+    for _part in spare.len()..PARTS {
+        let Ok(part) = Vec::with_capacity(alloc, PART) else {
+            return;
+        };
+        if spare.push(part).is_err() {
+            return;
+        }
     }
 }
 
@@ -38,9 +46,11 @@ impl SparedSet {
         ensures empty { spared_entries result ≡ [] }
         ensures short { is_short result ≡ false }
     {
+        let mut spare = Vec::new(alloc);
+        hold_back(alloc, &mut spare);
         SparedSet {
             pages: PagedArchive::new(alloc),
-            spare: hold_back(alloc),
+            spare,
             short: false,
         }
     }
@@ -60,23 +70,21 @@ impl SparedSet {
     }
 
     /// Gives up what is held back.
-    pub(crate) fn give_up(&mut self, alloc: Global)
+    pub(crate) fn give_up(&mut self)
         ensures pages { pages_of self.new ≡ pages_of self.old }
         ensures short { is_short self.new ≡ true }
     {
-        self.spare = Vec::new(alloc);
+        self.spare.clear();
         self.short = true;
     }
 
-    /// Empties the set, and holds memory back again if none is.
+    /// Empties the set, and holds memory back again.
     pub(crate) fn clear(&mut self, alloc: Global)
         ensures empty { spared_entries self.new ≡ [] }
         ensures short { is_short self.new ≡ false }
     {
         self.pages = PagedArchive::new(alloc);
-        if self.spare.capacity() == 0 {
-            self.spare = hold_back(alloc);
-        }
+        hold_back(alloc, &mut self.spare);
         self.short = false;
     }
 }
@@ -89,7 +97,7 @@ impl Store for SparedSet {
     fn add(&mut self, alloc: Global, record: &Record) -> Result<Added, AddFault> {
         match self.pages.add(alloc, record) {
             Err(AddFault::Memory) if !self.short => {
-                self.give_up(alloc);
+                self.give_up();
                 self.pages.add(alloc, record)
             }
             added => added,
@@ -99,7 +107,7 @@ impl Store for SparedSet {
     fn add_view(&mut self, alloc: Global, view: &RecordView<'_>) -> Result<Added, AddFault> {
         match self.pages.add_view(alloc, view) {
             Err(AddFault::Memory) if !self.short => {
-                self.give_up(alloc);
+                self.give_up();
                 self.pages.add_view(alloc, view)
             }
             added => added,
