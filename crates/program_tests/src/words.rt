@@ -267,16 +267,30 @@ fn range(from: Option<i64>, to: Option<i64>, undated: bool) -> Times {
     })
 }
 
+// whether `select` with these words takes this range of times
+fn selects_range(
+    rt: &HostRuntime,
+    words: &[&str],
+    from: Option<i64>,
+    to: Option<i64>,
+    undated: bool,
+) -> bool {
+    selects_times(rt, words, range(from, to, undated))
+}
+
 #[test]
 fn select_takes_times(rt: HostRuntime) {
-    let all = range(None, None, false);
-    let from = Some(1_795_600_800_000_000);
-    let from_then = range(from, None, false);
-    let from_midnight = range(Some(1_795_564_800_000_000), None, false);
-    let between = range(from, Some(253_402_300_799_999_999), true);
-    let rows: [(&[&str], Times); 9] = [
-        (&["select"], all),
-        (&["select", "--from", "2026-11-25T10:00:00Z"], from_then),
+    let midnight = Some(1_795_564_800_000_000);
+    let then = Some(1_795_600_800_000_000);
+    let last = Some(253_402_300_799_999_999);
+    let rows: [(&[&str], Option<i64>, Option<i64>, bool); 7] = [
+        (&["select"], None, None, false),
+        (
+            &["select", "--from", "2026-11-25T10:00:00Z"],
+            then,
+            None,
+            false,
+        ),
         (
             &[
                 "select",
@@ -284,20 +298,38 @@ fn select_takes_times(rt: HostRuntime) {
                 "--from=2026-11-25T07:00:00.000000-03:00",
                 "--undated",
             ],
-            between,
+            then,
+            last,
+            true,
         ),
-        (&["select", "--from", "2026-11-25T10:00"], from_then),
-        (&["select", "--from", "2026-11-25T10:00:00"], from_then),
+        (&["select", "--from", "2026-11-25T10:00"], then, None, false),
+        (
+            &["select", "--from", "2026-11-25T10:00:00"],
+            then,
+            None,
+            false,
+        ),
         (
             &["select", "--from", "2026-11-25T10:00:00.000000"],
-            from_then,
+            then,
+            None,
+            false,
         ),
-        (&["select", "--from", "2026-11-25"], from_midnight),
-        (&["select", "--only-undated"], Times::Undated),
-        (&["select", "--undated", "--only-undated"], Times::Undated),
+        (&["select", "--from", "2026-11-25"], midnight, None, false),
     ];
-    for (words, times) in rows {
-        assert!(rt; selects_times(&rt, words, times), "{words:?}");
+    for (words, from, to, undated) in rows {
+        assert!(rt; selects_range(&rt, words, from, to, undated), "{words:?}");
+    }
+}
+
+#[test]
+fn select_takes_records_without_a_time(rt: HostRuntime) {
+    let rows: [&[&str]; 2] = [
+        &["select", "--only-undated"],
+        &["select", "--undated", "--only-undated"],
+    ];
+    for words in rows {
+        assert!(rt; selects_times(&rt, words, Times::Undated), "{words:?}");
     }
 }
 
@@ -480,42 +512,45 @@ fn words_that_no_record_can_have_are_refused(rt: HostRuntime) -> Result<(), Fail
     Ok(())
 }
 
-// the folder and the range that `read` is given
-fn reads<'a>(rt: &HostRuntime, words: &'a [&'a str]) -> Option<(&'a str, InRange)> {
+// whether `read` with these words takes the folder `d` and this range
+fn reads(
+    rt: &HostRuntime,
+    words: &[&str],
+    from: Option<i64>,
+    to: Option<i64>,
+    undated: bool,
+) -> bool {
+    let asked_for = InRange {
+        from: from.and_then(Instant::from_micros),
+        to: to.and_then(Instant::from_micros),
+        undated,
+    };
     match &asked(rt, words) {
-        Ok(Request::Read { dir, range }) => Some((*dir, *range)),
-        _ => None,
+        Ok(Request::Read { dir, range }) => *dir == "d" && *range == asked_for,
+        _ => false,
     }
 }
 
 #[test]
 fn read_takes_a_folder_and_a_range(rt: HostRuntime) -> Result<(), Fail> {
-    let then = Instant::from_micros(1_795_600_800_000_000);
-    let all = InRange {
-        from: None,
-        to: None,
-        undated: false,
-    };
-    let since = InRange {
-        from: then,
-        to: None,
-        undated: true,
-    };
-    let before = InRange {
-        from: None,
-        to: then,
-        undated: false,
-    };
-    let rows: [(&[&str], InRange); 3] = [
-        (&["read", "d"], all),
+    let then = Some(1_795_600_800_000_000);
+    let rows: [(&[&str], Option<i64>, Option<i64>, bool); 3] = [
+        (&["read", "d"], None, None, false),
         (
             &["read", "--undated", "--from", "2026-11-25T10:00:00Z", "d"],
-            since,
+            then,
+            None,
+            true,
         ),
-        (&["read", "d", "--to=2026-11-25T10:00:00Z"], before),
+        (
+            &["read", "d", "--to=2026-11-25T10:00:00Z"],
+            None,
+            then,
+            false,
+        ),
     ];
-    for (words, range) in rows {
-        assert!(rt; reads(&rt, words) == Some(("d", range)), "{words:?}");
+    for (words, from, to, undated) in rows {
+        assert!(rt; reads(&rt, words, from, to, undated), "{words:?}");
     }
     refuses_all(
         &rt,
