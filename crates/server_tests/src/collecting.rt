@@ -10,6 +10,7 @@ use octet_devices::ToWrite;
 use std::alloc::Global;
 use std::io::Write;
 use std::net::{TcpListener, TcpStream, UdpSocket};
+use std::process::Abort;
 use std::test::Fail;
 use syslog_collect::Collector;
 use syslog_frame::Framing;
@@ -18,6 +19,10 @@ use syslog_legacy::FrameReading;
 const A: &[u8] = b"<13>1 - h a - - - x";
 
 const B: &[u8] = b"<14>1 2024-02-29T23:30:00.000000Z h a - - - y";
+
+const A_COUNTED: &[u8] = b"19 <13>1 - h a - - - x";
+
+const B_COUNTED: &[u8] = b"45 <14>1 2024-02-29T23:30:00.000000Z h a - - - y";
 
 const BOTH: &[u8] = b"19 <13>1 - h a - - - x45 <14>1 2024-02-29T23:30:00.000000Z h a - - - y";
 
@@ -35,6 +40,13 @@ fn collected<R: Source>(alloc: Global, source: &mut R) -> Result<(u8, Vec<u8>, V
     Ok((status, writer.into_inner(), notes.into_inner()))
 }
 
+// Sees that a run has this status, archive and lines.
+fn see(rt: &impl Abort, found: &(u8, Vec<u8>, Vec<u8>), expected: (u8, &[u8], &[u8])) {
+    assert_eq!(rt; found.0, expected.0);
+    assert_eq!(rt; found.1.as_slice(), expected.1);
+    assert_eq!(rt; found.2.as_slice(), expected.2);
+}
+
 // A source in memory that gives these steps with these octets.
 fn listed(alloc: Global, steps: &[(Step, &[u8])]) -> Result<ListSource, Fail> {
     let mut list = Vec::new(alloc);
@@ -46,18 +58,22 @@ fn listed(alloc: Global, steps: &[(Step, &[u8])]) -> Result<ListSource, Fail> {
     Ok(ListSource::new(list))
 }
 
+// Sends datagrams to a socket; what comes of them is collected.
+fn collected_by_udp(rt: &HostRuntime, sent: &[&[u8]]) -> Result<(u8, Vec<u8>, Vec<u8>), Fail> {
+    let server = UdpSocket::bind(rt, "127.0.0.1:0")?;
+    let client = UdpSocket::bind(rt, "127.0.0.1:0")?;
+    let addr = server.local_addr()?;
+    for octets in sent {
+        client.send_to(octets, addr)?;
+    }
+    let mut source = UdpSource::new(server, sent.len().min(9) as u32);
+    collected(rt.alloc(), &mut source)
+}
+
 #[test]
 fn datagrams_are_collected(rt: HostRuntime) -> Result<(), Fail> {
-    let server = UdpSocket::bind(&rt, "127.0.0.1:0")?;
-    let client = UdpSocket::bind(&rt, "127.0.0.1:0")?;
-    let addr = server.local_addr()?;
-    client.send_to(B, addr)?;
-    client.send_to(A, addr)?;
-    let mut source = UdpSource::new(server, 2);
-    let (status, archive, lines) = collected(rt.alloc(), &mut source)?;
-    assert_eq!(rt; status, 0);
-    assert_eq!(rt; archive.as_slice(), BOTH);
-    assert_eq!(rt; lines.as_slice(), b"".as_slice());
+    let found = collected_by_udp(&rt, &[B, A])?;
+    see(&rt, &found, (0, BOTH, b""));
     Ok(())
 }
 
@@ -82,23 +98,19 @@ fn collected_by_tcp(
 #[test]
 fn connections_are_collected(rt: HostRuntime) -> Result<(), Fail> {
     let first = b"19 <13>1 - h a - - - x45 ".as_slice();
-    let second = b"45 <14>1 2024-02-29T23:30:00.000000Z h a - - - y".as_slice();
-    let (status, archive, lines) = collected_by_tcp(&rt, Framing::Counted, &[first, second])?;
-    assert_eq!(rt; status, 1);
-    assert_eq!(rt; archive.as_slice(), BOTH);
-    assert_eq!(rt; lines.as_slice(), b"unterminated 22\n".as_slice());
+    let found = collected_by_tcp(&rt, Framing::Counted, &[first, B_COUNTED])?;
+    see(&rt, &found, (1, BOTH, b"unterminated 22\n"));
     Ok(())
 }
 
 #[test]
 fn a_bad_count_ends_its_own_connection_alone(rt: HostRuntime) -> Result<(), Fail> {
-    let sent = [b"x".as_slice(), b"19 <13>1 - h a - - - x", b"x"];
-    let (status, archive, lines) = collected_by_tcp(&rt, Framing::Counted, &sent)?;
-    assert_eq!(rt; status, 1);
-    assert_eq!(rt; archive.as_slice(), b"19 <13>1 - h a - - - x".as_slice());
-    assert_eq!(rt;
-        lines.as_slice(),
-        b"1 bad-count 0\n3 bad-count 0\n".as_slice()
+    let sent = [b"x".as_slice(), A_COUNTED, b"x"];
+    let found = collected_by_tcp(&rt, Framing::Counted, &sent)?;
+    see(
+        &rt,
+        &found,
+        (1, A_COUNTED, b"1 bad-count 0\n3 bad-count 0\n"),
     );
     Ok(())
 }
@@ -106,12 +118,11 @@ fn a_bad_count_ends_its_own_connection_alone(rt: HostRuntime) -> Result<(), Fail
 #[test]
 fn lines_are_collected(rt: HostRuntime) -> Result<(), Fail> {
     let sent = [b"<13>1 - h a - - - x\nx\n".as_slice(), b"x\n"];
-    let (status, archive, lines) = collected_by_tcp(&rt, Framing::Lf, &sent)?;
-    assert_eq!(rt; status, 1);
-    assert_eq!(rt; archive.as_slice(), b"19 <13>1 - h a - - - x".as_slice());
-    assert_eq!(rt;
-        lines.as_slice(),
-        b"2 syntax priority 0\n3 syntax priority 0\n".as_slice()
+    let found = collected_by_tcp(&rt, Framing::Lf, &sent)?;
+    see(
+        &rt,
+        &found,
+        (1, A_COUNTED, b"2 syntax priority 0\n3 syntax priority 0\n"),
     );
     Ok(())
 }
@@ -119,13 +130,8 @@ fn lines_are_collected(rt: HostRuntime) -> Result<(), Fail> {
 #[test]
 fn after_a_fault_the_archive_is_written(rt: HostRuntime) -> Result<(), Fail> {
     let mut source = listed(rt.alloc(), &[(Step::Datagram(0), B), (Step::Failed, b"")])?;
-    let (status, archive, lines) = collected(rt.alloc(), &mut source)?;
-    assert_eq!(rt; status, 2);
-    assert_eq!(rt;
-        archive.as_slice(),
-        b"45 <14>1 2024-02-29T23:30:00.000000Z h a - - - y".as_slice()
-    );
-    assert_eq!(rt; lines.as_slice(), b"socket fault\n".as_slice());
+    let found = collected(rt.alloc(), &mut source)?;
+    see(&rt, &found, (2, B_COUNTED, b"socket fault\n"));
     Ok(())
 }
 
@@ -136,21 +142,17 @@ fn the_rest_of_a_failed_connection_is_passed_over(rt: HostRuntime) -> Result<(),
         &[
             (Step::Opened(Framing::Counted), b""),
             (Step::Piece(0), b"19 <13>1 - h a - - - xx"),
-            (
-                Step::Piece(0),
-                b"45 <14>1 2024-02-29T23:30:00.000000Z h a - - - y",
-            ),
+            (Step::Piece(0), B_COUNTED),
             (Step::Ended, b""),
             (Step::Datagram(0), b""),
             (Step::Finished, b""),
         ],
     )?;
-    let (status, archive, lines) = collected(rt.alloc(), &mut source)?;
-    assert_eq!(rt; status, 1);
-    assert_eq!(rt; archive.as_slice(), b"19 <13>1 - h a - - - x".as_slice());
-    assert_eq!(rt;
-        lines.as_slice(),
-        b"2 bad-count 22\n3 syntax priority 0\n".as_slice()
+    let found = collected(rt.alloc(), &mut source)?;
+    see(
+        &rt,
+        &found,
+        (1, A_COUNTED, b"2 bad-count 22\n3 syntax priority 0\n"),
     );
     Ok(())
 }
@@ -162,10 +164,8 @@ fn a_source_without_an_end_is_told(rt: HostRuntime) -> Result<(), Fail> {
         (Step::Piece(0), b""),
     ];
     let mut source = listed(rt.alloc(), &steps)?;
-    let (status, archive, lines) = collected(rt.alloc(), &mut source)?;
-    assert_eq!(rt; status, 2);
-    assert_eq!(rt; archive.as_slice(), b"".as_slice());
-    assert_eq!(rt; lines.as_slice(), b"endless input\n".as_slice());
+    let found = collected(rt.alloc(), &mut source)?;
+    see(&rt, &found, (2, b"", b"endless input\n"));
     Ok(())
 }
 

@@ -7,6 +7,7 @@ use serve_engine::{KeepFault, Keeping, Pause, ServeCounts, ServeEnd, ServeOption
 use socket_source::{ConnectionEnd, MemorySource, ServerStep, SourceFault};
 use std::alloc::Global;
 use std::net::SocketAddr;
+use std::process::Abort;
 use std::test::Fail;
 use syslog_collect::Collector;
 use syslog_frame::Framing;
@@ -29,6 +30,8 @@ struct CountKeeper {
 }
 
 impl Keeping<PagedArchive> for CountKeeper {
+    ghost use Rattle.std.specs.Prelude.{false};
+
     ghost stands = { λ _ _. ⊥ };
 
     ghost short = { λ _. false };
@@ -96,6 +99,75 @@ fn keeper() -> CountKeeper {
     }
 }
 
+// What comes to a server. The address of a peer is a text.
+#[derive(Clone, Copy)]
+enum Given<'a> {
+    Opened(u32, Framing, &'a str),
+    Piece(u32, &'a [u8]),
+    Ended(u32, ConnectionEnd),
+    Datagram(Option<&'a str>, &'a [u8]),
+    TurnedAway(Framing, &'a str),
+    Step(ServerStep),
+}
+
+const TICK: Given<'static> = Given::Step(ServerStep::Tick);
+
+fn address(text: &str) -> Result<SocketAddr, Fail> {
+    Ok(text.parse::<SocketAddr>()?)
+}
+
+fn datagram_from(peer: Option<&str>) -> Result<ServerStep, Fail> {
+    let peer = match peer {
+        Some(text) => Some(address(text)?),
+        None => None,
+    };
+    Ok(ServerStep::Datagram {
+        listener: 0,
+        peer,
+        len: 0,
+    })
+}
+
+// The step of what comes, and its octets.
+fn step_of<'a>(given: Given<'a>) -> Result<(ServerStep, &'a [u8]), Fail> {
+    let nothing = b"".as_slice();
+    Ok(match given {
+        Given::Opened(conn, framing, peer) => {
+            let peer = address(peer)?;
+            let step = ServerStep::Opened {
+                conn,
+                listener: 1,
+                framing,
+                peer,
+            };
+            (step, nothing)
+        }
+        Given::Piece(conn, octets) => (ServerStep::Piece { conn, len: 0 }, octets),
+        Given::Ended(conn, end) => (ServerStep::Ended { conn, end }, nothing),
+        Given::Datagram(peer, octets) => (datagram_from(peer)?, octets),
+        Given::TurnedAway(framing, peer) => {
+            let peer = address(peer)?;
+            let step = ServerStep::TurnedAway {
+                listener: 1,
+                framing,
+                peer,
+            };
+            (step, nothing)
+        }
+        Given::Step(step) => (step, nothing),
+    })
+}
+
+// A source in memory that gives these.
+fn source_of(alloc: Global, given: &[Given<'_>]) -> Result<MemorySource, Fail> {
+    let mut steps = Vec::new(alloc);
+    for one in given {
+        let (step, octets) = step_of(*one)?;
+        steps.push((step, octets.to_vec(alloc)?))?;
+    }
+    Ok(MemorySource::new(alloc, 4, 3, steps)?)
+}
+
 // What serving these steps comes to.
 #[derive(Drop)]
 struct Service {
@@ -108,26 +180,31 @@ struct Service {
     refused: Vec<u8>,
 }
 
-fn served(
-    alloc: Global,
-    keeper: CountKeeper,
-    steps: &[(ServerStep, &[u8])],
-) -> Result<Service, Fail> {
-    let mut list = Vec::new(alloc);
-    for (step, octets) in steps {
-        list.push((*step, octets.to_vec(alloc)?))?;
-    }
-    let mut source = MemorySource::new(alloc, 4, 3, list)?;
+type TestServer = Server<PagedArchive, CountKeeper, Fuse<ToWrite<Vec<u8>>>, ToWrite<Vec<u8>>>;
+
+// A server whose notes go to a device that takes so many octets.
+fn server_of(alloc: Global, keeper: CountKeeper, room: u64) -> Result<TestServer, Fail> {
     let Ok(collector) = Collector::new(alloc, PagedArchive::new(alloc), None) else {
         return Err(Fail::from("no collector"));
     };
-    let notes = ToWrite::new(Vec::new(alloc));
+    let notes = Fuse::new(ToWrite::new(Vec::new(alloc)), room, u64::MAX);
     let refused = ToWrite::new(Vec::new(alloc));
-    let mut server = Server::new(alloc, collector, keeper, notes, refused)?;
+    Ok(Server::new(alloc, collector, keeper, notes, refused)?)
+}
+
+fn served_with(
+    alloc: Global,
+    keeper: CountKeeper,
+    given: &[Given<'_>],
+    room: u64,
+    count_millis: u64,
+) -> Result<Service, Fail> {
+    let mut source = source_of(alloc, given)?;
+    let mut server = server_of(alloc, keeper, room)?;
     let mut pause = CountPause(0);
     let options = ServeOptions {
         checkpoint_len: 1,
-        count_millis: 200,
+        count_millis,
     };
     let end = server.serve(alloc, &mut source, &mut pause, &options);
     let counts = server.counts();
@@ -138,70 +215,41 @@ fn served(
         committed: keeper.committed,
         checkpoints: keeper.checkpoints,
         pauses: pause.0,
-        notes: notes.into_inner(),
+        notes: notes.into_inner().into_inner(),
         refused: refused.into_inner(),
     })
 }
 
-fn opened(conn: u32, framing: Framing, peer: &str) -> Result<ServerStep, Fail> {
-    Ok(ServerStep::Opened {
-        conn,
-        listener: 1,
-        framing,
-        peer: peer.parse::<SocketAddr>()?,
-    })
-}
-
-fn piece(conn: u32) -> ServerStep {
-    ServerStep::Piece { conn, len: 0 }
-}
-
-fn ended(conn: u32, end: ConnectionEnd) -> ServerStep {
-    ServerStep::Ended { conn, end }
-}
-
-fn datagram(peer: Option<&str>) -> Result<ServerStep, Fail> {
-    let peer = match peer {
-        Some(text) => Some(text.parse::<SocketAddr>()?),
-        None => None,
-    };
-    Ok(ServerStep::Datagram {
-        listener: 0,
-        peer,
-        len: 0,
-    })
+fn served(alloc: Global, keeper: CountKeeper, given: &[Given<'_>]) -> Result<Service, Fail> {
+    served_with(alloc, keeper, given, u64::MAX, 200)
 }
 
 #[test]
 fn steps_are_served_and_told(rt: HostRuntime) -> Result<(), Fail> {
-    let steps = [
-        (datagram(Some("192.0.2.1:514"))?, A),
-        (datagram(Some("192.0.2.1:514"))?, b"<13>1 x".as_slice()),
-        (datagram(None)?, b"<13>x"),
-        (opened(0, Framing::Counted, "[2001:db8::1]:4711")?, b""),
-        (opened(1, Framing::Lf, "192.0.2.2:99")?, b""),
-        (piece(0), b"19 <13>1 - h a"),
-        (piece(1), b"<13>1 - h a - - - z\n<1"),
-        (piece(0), b" - - - x1x"),
-        (piece(0), b"lost"),
-        (ServerStep::Tick, b""),
-        (ended(1, ConnectionEnd::Reset), b""),
-        (opened(0, Framing::Lf, "192.0.2.3:7")?, b""),
-        (piece(0), B),
-        (piece(0), b"\n"),
-        (ended(0, ConnectionEnd::Idle), b""),
-        (
-            ServerStep::TurnedAway {
-                listener: 1,
-                framing: Framing::Lf,
-                peer: "192.0.2.4:8".parse::<SocketAddr>()?,
-            },
-            b"",
-        ),
-        (ServerStep::Tick, b""),
-        (ServerStep::InputEnded, b""),
-    ];
-    let done = served(rt.alloc(), keeper(), &steps)?;
+    let done = served(
+        rt.alloc(),
+        keeper(),
+        &[
+            Given::Datagram(Some("192.0.2.1:514"), A),
+            Given::Datagram(Some("192.0.2.1:514"), b"<13>1 x"),
+            Given::Datagram(None, b"<13>x"),
+            Given::Opened(0, Framing::Counted, "[2001:db8::1]:4711"),
+            Given::Opened(1, Framing::Lf, "192.0.2.2:99"),
+            Given::Piece(0, b"19 <13>1 - h a"),
+            Given::Piece(1, b"<13>1 - h a - - - z\n<1"),
+            Given::Piece(0, b" - - - x1x"),
+            Given::Piece(0, b"lost"),
+            TICK,
+            Given::Ended(1, ConnectionEnd::Reset),
+            Given::Opened(0, Framing::Lf, "192.0.2.3:7"),
+            Given::Piece(0, B),
+            Given::Piece(0, b"\n"),
+            Given::Ended(0, ConnectionEnd::Idle),
+            Given::TurnedAway(Framing::Lf, "192.0.2.4:8"),
+            TICK,
+            Given::Step(ServerStep::InputEnded),
+        ],
+    )?;
     assert_eq!(rt; done.end, ServeEnd::Finished);
     assert_eq!(rt; done.committed, 3);
     assert_eq!(rt; done.checkpoints, 2);
@@ -222,22 +270,22 @@ fn steps_are_served_and_told(rt: HostRuntime) -> Result<(), Fail> {
 
 #[test]
 fn refused_frames_of_streams_are_kept(rt: HostRuntime) -> Result<(), Fail> {
-    let steps = [
-        (
-            opened(0, Framing::Counted, "192.0.2.1:4711")?,
-            b"".as_slice(),
-        ),
-        (opened(1, Framing::Lf, "192.0.2.2:99")?, b""),
-        (piece(0), b"6 <13>1"),
-        (piece(1), b"<13>1 - h a - - - z\nx"),
-        (piece(0), b" 4 <1\nx19 <13>1 - h a - - - x3 <9"),
-        (piece(1), b"y"),
-        (piece(0), b">"),
-        (piece(1), b"z\r\n\n"),
-        (ended(0, ConnectionEnd::Closed), b""),
-        (ended(1, ConnectionEnd::Closed), b""),
-    ];
-    let done = served(rt.alloc(), keeper(), &steps)?;
+    let done = served(
+        rt.alloc(),
+        keeper(),
+        &[
+            Given::Opened(0, Framing::Counted, "192.0.2.1:4711"),
+            Given::Opened(1, Framing::Lf, "192.0.2.2:99"),
+            Given::Piece(0, b"6 <13>1"),
+            Given::Piece(1, b"<13>1 - h a - - - z\nx"),
+            Given::Piece(0, b" 4 <1\nx19 <13>1 - h a - - - x3 <9"),
+            Given::Piece(1, b"y"),
+            Given::Piece(0, b">"),
+            Given::Piece(1, b"z\r\n\n"),
+            Given::Ended(0, ConnectionEnd::Closed),
+            Given::Ended(1, ConnectionEnd::Closed),
+        ],
+    )?;
     assert_eq!(rt; done.end, ServeEnd::Finished);
     assert_eq!(rt; done.committed, 2);
     let refused = b"50 counted 192.0.2.1:4711 2 syntax timestamp 6\n<13>1 \
@@ -249,59 +297,46 @@ fn refused_frames_of_streams_are_kept(rt: HostRuntime) -> Result<(), Fail> {
     Ok(())
 }
 
-#[test]
-fn a_full_disk_stops_reading(rt: HostRuntime) -> Result<(), Fail> {
+// Sees that reading stops as long as a commit wants this, and goes on then.
+fn see_a_wait(rt: &(impl Abort + AllocGlobal), want: KeepFault, notes: &[u8]) -> Result<(), Fail> {
     let steps = [
-        (datagram(None)?, A),
-        (ServerStep::Tick, b"".as_slice()),
-        (datagram(None)?, B),
-        (ServerStep::Tick, b"".as_slice()),
+        Given::Datagram(None, A),
+        TICK,
+        Given::Datagram(None, B),
+        TICK,
     ];
     let mut keeper = keeper();
     keeper.full_from = 1;
     keeper.full_until = 4;
+    keeper.want = want;
     let done = served(rt.alloc(), keeper, &steps)?;
     assert_eq!(rt; done.end, ServeEnd::Finished);
     assert_eq!(rt; done.committed, 2);
     assert_eq!(rt; done.pauses, 3);
     assert_eq!(rt; done.counts.batches, 2);
+    assert_eq!(rt; done.notes.as_slice(), notes);
+    Ok(())
+}
+
+#[test]
+fn a_full_disk_stops_reading(rt: HostRuntime) -> Result<(), Fail> {
     let notes = b"store full\n\
         received 2 new 2 held 0 refused 0 too-long 0 connections 0 batches 2 octets 64 quiet 0\n\
         store has room\n";
-    assert_eq!(rt; done.notes.as_slice(), notes.as_slice());
-    Ok(())
+    see_a_wait(&rt, KeepFault::Full, notes)
 }
 
 #[test]
 fn want_of_memory_at_a_commit_stops_reading(rt: HostRuntime) -> Result<(), Fail> {
-    let steps = [
-        (datagram(None)?, A),
-        (ServerStep::Tick, b"".as_slice()),
-        (datagram(None)?, B),
-        (ServerStep::Tick, b"".as_slice()),
-    ];
-    let mut keeper = keeper();
-    keeper.full_from = 1;
-    keeper.full_until = 4;
-    keeper.want = KeepFault::Memory;
-    let done = served(rt.alloc(), keeper, &steps)?;
-    assert_eq!(rt; done.end, ServeEnd::Finished);
-    assert_eq!(rt; done.committed, 2);
-    assert_eq!(rt; done.pauses, 3);
     let notes = b"store waits: want of memory\n\
         received 2 new 2 held 0 refused 0 too-long 0 connections 0 batches 2 octets 64 quiet 0\n\
         store has room\n";
-    assert_eq!(rt; done.notes.as_slice(), notes.as_slice());
-    Ok(())
+    see_a_wait(&rt, KeepFault::Memory, notes)
 }
 
 #[test]
 fn a_disk_that_fails_ends_the_run(rt: HostRuntime) -> Result<(), Fail> {
-    let steps = [
-        (datagram(None)?, A),
-        (ServerStep::Tick, b"".as_slice()),
-        (datagram(None)?, B),
-    ];
+    let steps = [Given::Datagram(None, A), TICK, Given::Datagram(None, B)];
     let mut keeper = keeper();
     keeper.fails_at = 1;
     let done = served(rt.alloc(), keeper, &steps)?;
@@ -315,10 +350,8 @@ fn a_disk_that_fails_ends_the_run(rt: HostRuntime) -> Result<(), Fail> {
 
 #[test]
 fn a_source_that_fails_is_committed(rt: HostRuntime) -> Result<(), Fail> {
-    let steps = [
-        (datagram(None)?, A),
-        (ServerStep::Failed(SourceFault::Clock), b"".as_slice()),
-    ];
+    let failed = ServerStep::Failed(SourceFault::Clock);
+    let steps = [Given::Datagram(None, A), Given::Step(failed)];
     let done = served(rt.alloc(), keeper(), &steps)?;
     assert_eq!(rt; done.end, ServeEnd::Source(SourceFault::Clock));
     assert_eq!(rt; done.committed, 1);
@@ -328,24 +361,13 @@ fn a_source_that_fails_is_committed(rt: HostRuntime) -> Result<(), Fail> {
 
 #[test]
 fn lines_that_cannot_be_written_are_dropped(rt: HostRuntime) -> Result<(), Fail> {
-    let alloc = rt.alloc();
-    let mut steps = Vec::new(alloc);
-    steps.push((datagram(None)?, b"no record".to_vec(alloc)?))?;
-    steps.push((datagram(None)?, A.to_vec(alloc)?))?;
-    let mut source = MemorySource::new(alloc, 4, 3, steps)?;
-    let Ok(collector) = Collector::new(alloc, PagedArchive::new(alloc), None) else {
-        return Err(Fail::from("no collector"));
-    };
-    let notes = Fuse::new(ToWrite::new(Vec::new(alloc)), 0, 0);
-    let refused = ToWrite::new(Vec::new(alloc));
-    let mut server = Server::new(alloc, collector, keeper(), notes, refused)?;
-    let options = ServeOptions {
-        checkpoint_len: 1,
-        count_millis: 0,
-    };
-    let end = server.serve(alloc, &mut source, &mut CountPause(0), &options);
-    assert_eq!(rt; end, ServeEnd::Finished);
-    assert_eq!(rt; server.counts().dropped, 1);
-    assert_eq!(rt; server.counts().new, 1);
+    let steps = [
+        Given::Datagram(None, b"no record"),
+        Given::Datagram(None, A),
+    ];
+    let done = served_with(rt.alloc(), keeper(), &steps, 0, 0)?;
+    assert_eq!(rt; done.end, ServeEnd::Finished);
+    assert_eq!(rt; done.counts.dropped, 1);
+    assert_eq!(rt; done.counts.new, 1);
     Ok(())
 }

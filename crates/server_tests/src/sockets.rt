@@ -16,6 +16,9 @@ use std::time::{Duration, Instant};
 use std::{env, fs, process};
 use syslog_frame::Framing;
 
+// a source over the sockets of the system
+type Sockets<'a> = SocketSource<'a, HostRuntime>;
+
 // Room for two connections. No tick comes while a test runs.
 fn options(until_eof: bool) -> SourceOptions {
     SourceOptions {
@@ -32,6 +35,24 @@ fn address(text: &str) -> Result<SocketAddr, Fail> {
     Ok(text.parse::<SocketAddr>()?)
 }
 
+// A port of the loopback that the system chooses.
+fn any() -> Result<SocketAddr, Fail> {
+    address("127.0.0.1:0")
+}
+
+fn open<'a>(
+    rt: &'a HostRuntime,
+    listeners: &[Listener<'_>],
+    options: SourceOptions,
+) -> Result<Sockets<'a>, OpenFault> {
+    SocketSource::open(rt, rt.alloc(), listeners, options)
+}
+
+// The address of a listener.
+fn address_of(source: &Sockets<'_>, listener: usize) -> Result<SocketAddr, Fail> {
+    Ok(source.local_addr(listener).ok_or("no address")?)
+}
+
 // The octets that a step has put into the front of a slice.
 fn front(step: ServerStep, buf: &[u8]) -> &[u8] {
     match step {
@@ -42,6 +63,10 @@ fn front(step: ServerStep, buf: &[u8]) -> &[u8] {
     }
 }
 
+fn next<S: ServerSource>(source: &mut S, buf: &mut [u8]) -> ServerStep {
+    source.next(buf)
+}
+
 // The source gives this step next, with these octets.
 fn expect_next<S: ServerSource>(
     rt: &(impl Abort + AllocGlobal),
@@ -50,9 +75,27 @@ fn expect_next<S: ServerSource>(
     octets: &[u8],
 ) -> Result<(), Fail> {
     let mut buf = vec![in rt.alloc(); 0u8; PIECE_MAX]?;
-    let given = source.next(&mut buf);
+    let given = next(source, &mut buf);
     assert_eq!(rt; given, step);
     assert_eq!(rt; front(given, &buf), octets);
+    Ok(())
+}
+
+fn udp_client(rt: &HostRuntime) -> Result<UdpSocket, Fail> {
+    Ok(UdpSocket::bind(rt, "127.0.0.1:0")?)
+}
+
+fn send(client: &UdpSocket, octets: &[u8], to: SocketAddr) -> Result<(), Fail> {
+    client.send_to(octets, to)?;
+    Ok(())
+}
+
+fn connect(rt: &HostRuntime, to: SocketAddr) -> Result<TcpStream, Fail> {
+    Ok(TcpStream::connect(rt, to)?)
+}
+
+fn write(mut client: &TcpStream, octets: &[u8]) -> Result<(), Fail> {
+    client.write_all(octets)?;
     Ok(())
 }
 
@@ -83,26 +126,93 @@ fn reset(client: &TcpStream) {
     let _ = unsafe { c::connect(client.as_raw_fd(), &no_address, 16) };
 }
 
+// The framing of a listener of `two_listeners`.
+fn framing_of(listener: usize) -> Framing {
+    if listener == 0 {
+        Framing::Counted
+    } else {
+        Framing::Lf
+    }
+}
+
 fn opened(conn: u32, listener: usize, client: &TcpStream) -> Result<ServerStep, Fail> {
     Ok(ServerStep::Opened {
         conn,
         listener,
-        framing: if listener == 0 {
-            Framing::Counted
-        } else {
-            Framing::Lf
-        },
+        framing: framing_of(listener),
         peer: client.local_addr()?,
     })
 }
 
-fn item(alloc: Global, step: ServerStep, octets: &[u8]) -> Result<(ServerStep, Vec<u8>), Fail> {
-    Ok((step, octets.to_vec(alloc)?))
+fn turned_away(listener: usize, client: &TcpStream) -> Result<ServerStep, Fail> {
+    Ok(ServerStep::TurnedAway {
+        listener,
+        framing: framing_of(listener),
+        peer: client.local_addr()?,
+    })
+}
+
+fn piece(conn: u32) -> ServerStep {
+    ServerStep::Piece { conn, len: 4 }
+}
+
+fn ended(conn: u32, end: ConnectionEnd) -> ServerStep {
+    ServerStep::Ended { conn, end }
+}
+
+fn datagram(listener: usize, client: &UdpSocket, len: usize) -> Result<ServerStep, Fail> {
+    let peer = Some(client.local_addr()?);
+    Ok(ServerStep::Datagram {
+        listener,
+        peer,
+        len,
+    })
+}
+
+// The source gives the opening of a client's connection next.
+fn expect_opened(
+    rt: &(impl Abort + AllocGlobal),
+    source: &mut Sockets<'_>,
+    conn: u32,
+    listener: usize,
+    client: &TcpStream,
+) -> Result<(), Fail> {
+    expect_next(rt, source, opened(conn, listener, client)?, b"")
+}
+
+// The source turns a client's connection away next.
+fn expect_turned_away(
+    rt: &(impl Abort + AllocGlobal),
+    source: &mut Sockets<'_>,
+    listener: usize,
+    client: &TcpStream,
+) -> Result<(), Fail> {
+    expect_next(rt, source, turned_away(listener, client)?, b"")
+}
+
+// The source gives a client's datagram next.
+fn expect_datagram(
+    rt: &(impl Abort + AllocGlobal),
+    source: &mut Sockets<'_>,
+    listener: usize,
+    client: &UdpSocket,
+    octets: &[u8],
+) -> Result<(), Fail> {
+    let step = datagram(listener, client, octets.len())?;
+    expect_next(rt, source, step, octets)
+}
+
+// A list of steps, each with its octets.
+fn listed(alloc: Global, rows: &[(ServerStep, &[u8])]) -> Result<MemorySource, Fail> {
+    let mut steps = Vec::new(alloc);
+    for (step, octets) in rows {
+        steps.push((*step, octets.to_vec(alloc)?))?;
+    }
+    Ok(MemorySource::new(alloc, 2, 1, steps)?)
 }
 
 #[test]
 fn a_list_gives_the_steps_that_may_come(rt: HostRuntime) -> Result<(), Fail> {
-    let alloc = rt.alloc();
     let peer = address("192.0.2.1:514")?;
     let opened = ServerStep::Opened {
         conn: 1,
@@ -116,38 +226,37 @@ fn a_list_gives_the_steps_that_may_come(rt: HostRuntime) -> Result<(), Fail> {
         peer: Some(peer),
         len: 1,
     };
-    let ended = ServerStep::Ended {
-        conn: 1,
-        end: ConnectionEnd::Reset,
-    };
-    let mut steps = Vec::new(alloc);
+    let reset = ended(1, ConnectionEnd::Reset);
+    let mut source = listed(
+        rt.alloc(),
+        &[
+            (piece, b"no"),
+            (opened, b""),
+            (opened, b""),
+            (piece, b"ab"),
+            (datagram, b"d"),
+            (reset, b""),
+            (piece, b"no"),
+            (opened, b""),
+            (piece, b"no"),
+            (ServerStep::Tick, b""),
+        ],
+    )?;
     for (step, octets) in [
-        (piece, b"no".as_slice()),
-        (opened, b""),
-        (opened, b""),
+        (opened, b"".as_slice()),
         (piece, b"ab"),
         (datagram, b"d"),
-        (ended, b""),
-        (piece, b"no"),
+        (reset, b""),
         (opened, b""),
-        (piece, b"no"),
-        (ServerStep::Tick, b""),
     ] {
-        steps.push(item(alloc, step, octets)?)?;
+        expect_next(&rt, &mut source, step, octets)?;
     }
-    let mut source = MemorySource::new(alloc, 2, 1, steps)?;
-    expect_next(&rt, &mut source, opened, b"")?;
-    expect_next(&rt, &mut source, piece, b"ab")?;
-    expect_next(&rt, &mut source, datagram, b"d")?;
-    expect_next(&rt, &mut source, ended, b"")?;
-    expect_next(&rt, &mut source, opened, b"")?;
     source.close(1);
-    expect_next(&rt, &mut source, ServerStep::Tick, b"")?;
-    expect_next(&rt, &mut source, ServerStep::Finished, b"")?;
-    assert_eq!(rt;
-        source.next(&mut []),
-        ServerStep::Failed(SourceFault::NoRoom)
-    );
+    for step in [ServerStep::Tick, ServerStep::Finished] {
+        expect_next(&rt, &mut source, step, b"")?;
+    }
+    let no_room = ServerStep::Failed(SourceFault::NoRoom);
+    assert_eq!(rt; next(&mut source, &mut []), no_room);
     Ok(())
 }
 
@@ -164,36 +273,23 @@ fn unused_path(rt: &HostRuntime) -> io::Result<String> {
 #[test]
 fn datagrams_come_whole_and_in_order(rt: HostRuntime) -> Result<(), Fail> {
     let path = unused_path(&rt)?;
-    let listeners = [
-        Listener::Udp(address("127.0.0.1:0")?),
-        Listener::Unix(path.as_str()),
-    ];
+    let listeners = [Listener::Udp(any()?), Listener::Unix(path.as_str())];
     // The second opening finds the path of the first, which nobody has open any more.
-    drop(SocketSource::open(&rt, rt.alloc(), &listeners, options(false))?);
-    let mut source = SocketSource::open(&rt, rt.alloc(), &listeners, options(false))?;
+    drop(open(&rt, &listeners, options(false))?);
+    let mut source = open(&rt, &listeners, options(false))?;
     assert_eq!(rt; source.local_addr(1), None);
-    let client = UdpSocket::bind(&rt, "127.0.0.1:0")?;
-    let peer = Some(client.local_addr()?);
-    let addr = source.local_addr(0).ok_or("no address")?;
+    let client = udp_client(&rt)?;
+    let addr = address_of(&source, 0)?;
     for octets in [b"one".as_slice(), b"", b"three"] {
-        client.send_to(octets, addr)?;
-        let len = octets.len();
-        let step = ServerStep::Datagram {
-            listener: 0,
-            peer,
-            len,
-        };
-        expect_next(&rt, &mut source, step, octets)?;
+        send(&client, octets, addr)?;
+        expect_datagram(&rt, &mut source, 0, &client, octets)?;
     }
-    client.send_to(b"four", addr)?;
-    client.send_to(b"five", addr)?;
-    for octets in [b"four".as_slice(), b"five"] {
-        let step = ServerStep::Datagram {
-            listener: 0,
-            peer,
-            len: 4,
-        };
-        expect_next(&rt, &mut source, step, octets)?;
+    let waiting = [b"four".as_slice(), b"five"];
+    for octets in waiting {
+        send(&client, octets, addr)?;
+    }
+    for octets in waiting {
+        expect_datagram(&rt, &mut source, 0, &client, octets)?;
     }
     send_to_path(&rt, path.as_str(), b"path")?;
     let step = ServerStep::Datagram {
@@ -206,35 +302,52 @@ fn datagrams_come_whole_and_in_order(rt: HostRuntime) -> Result<(), Fail> {
     Ok(())
 }
 
-#[test]
-fn a_datagram_comes_between_the_steps_of_connections(rt: HostRuntime) -> Result<(), Fail> {
-    let any = address("127.0.0.1:0")?;
-    let listeners = [Listener::Counted(any), Listener::Udp(any)];
-    let mut options = options(false);
-    options.connections = 200;
-    options.per_peer = 200;
-    let mut source = SocketSource::open(&rt, rt.alloc(), &listeners, options)?;
-    let counted = source.local_addr(0).ok_or("no address")?;
+// Clients of a counted listener, of which each has sent a piece.
+fn clients_with_pieces(
+    rt: &HostRuntime,
+    source: &mut Sockets<'_>,
+    count: u32,
+) -> Result<Vec<TcpStream>, Fail> {
+    let counted = address_of(source, 0)?;
+    let mut buf = [0u8; 16];
     let mut clients = Vec::new(rt.alloc());
-    for conn in 0..200u32 {
-        let client = TcpStream::connect(&rt, counted)?;
-        expect_next(&rt, &mut source, opened(conn, 0, &client)?, b"")?;
+    for conn in 0..count {
+        let client = connect(rt, counted)?;
+        if next(source, &mut buf) != opened(conn, 0, &client)? {
+            Err("another step")?;
+        }
         clients.push(client)?;
     }
-    for client in clients.iter_mut() {
-        client.write_all(b"one.")?;
+    for client in clients.iter() {
+        write(client, b"one.")?;
     }
-    let sender = UdpSocket::bind(&rt, "127.0.0.1:0")?;
-    sender.send_to(b"d", source.local_addr(1).ok_or("no address")?)?;
+    Ok(clients)
+}
+
+// How many pieces of connections come before a datagram.
+fn pieces_before_datagram(source: &mut Sockets<'_>) -> usize {
     let mut buf = [0u8; 16];
     let mut pieces = 0usize;
     for _step in 0..201 {
-        match source.next(&mut buf) {
+        match next(source, &mut buf) {
             ServerStep::Piece { .. } => pieces = pieces.saturating_add(1),
             ServerStep::Datagram { .. } => break,
             _ => {}
         }
     }
+    pieces
+}
+
+#[test]
+fn a_datagram_comes_between_the_steps_of_connections(rt: HostRuntime) -> Result<(), Fail> {
+    let listeners = [Listener::Counted(any()?), Listener::Udp(any()?)];
+    let mut options = options(false);
+    options.connections = 200;
+    options.per_peer = 200;
+    let mut source = open(&rt, &listeners, options)?;
+    let _clients = clients_with_pieces(&rt, &mut source, 200)?;
+    send(&udp_client(&rt)?, b"d", address_of(&source, 1)?)?;
+    let pieces = pieces_before_datagram(&mut source);
     assert!(rt;
         pieces <= STEPS_BETWEEN,
         "{pieces} steps of connections came before"
@@ -242,123 +355,114 @@ fn a_datagram_comes_between_the_steps_of_connections(rt: HostRuntime) -> Result<
     Ok(())
 }
 
+// A port that nobody uses.
+fn free_port(rt: &HostRuntime) -> Result<u16, Fail> {
+    Ok(udp_client(rt)?.local_addr()?.port())
+}
+
 #[test]
 fn an_address_of_version_6_is_one_of_its_own(rt: HostRuntime) -> Result<(), Fail> {
     let Ok(client) = UdpSocket::bind(&rt, "[::1]:0") else {
         return Ok(());
     };
-    let probe = UdpSocket::bind(&rt, "127.0.0.1:0")?;
-    let port = probe.local_addr()?.port();
-    drop(probe);
+    let port = free_port(&rt)?;
     let listeners = [
         Listener::Udp(SocketAddr::from(([0u8; 4], port))),
         Listener::Udp(SocketAddr::from(([0u16; 8], port))),
     ];
-    let mut source = SocketSource::open(&rt, rt.alloc(), &listeners, options(false))?;
-    client.send_to(b"six", SocketAddr::from(([0, 0, 0, 0, 0, 0, 0, 1], port)))?;
-    let step = ServerStep::Datagram {
-        listener: 1,
-        peer: Some(client.local_addr()?),
-        len: 3,
-    };
-    expect_next(&rt, &mut source, step, b"six")
+    let mut source = open(&rt, &listeners, options(false))?;
+    let to = SocketAddr::from(([0, 0, 0, 0, 0, 0, 0, 1], port));
+    send(&client, b"six", to)?;
+    expect_datagram(&rt, &mut source, 1, &client, b"six")
 }
 
 // A source over a counted listener and one of lines, and their addresses.
-fn two_listeners(
-    rt: &HostRuntime,
-) -> Result<(SocketSource<'_, HostRuntime>, SocketAddr, SocketAddr), Fail> {
-    let any = address("127.0.0.1:0")?;
-    let listeners = [Listener::Counted(any), Listener::Lf(any)];
-    let source = SocketSource::open(rt, rt.alloc(), &listeners, options(false))?;
-    let counted = source.local_addr(0).ok_or("no address")?;
-    let lf = source.local_addr(1).ok_or("no address")?;
+fn two_listeners(rt: &HostRuntime) -> Result<(Sockets<'_>, SocketAddr, SocketAddr), Fail> {
+    let listeners = [Listener::Counted(any()?), Listener::Lf(any()?)];
+    let source = open(rt, &listeners, options(false))?;
+    let counted = address_of(&source, 0)?;
+    let lf = address_of(&source, 1)?;
     Ok((source, counted, lf))
-}
-
-fn piece(conn: u32) -> ServerStep {
-    ServerStep::Piece { conn, len: 4 }
-}
-
-fn ended(conn: u32, end: ConnectionEnd) -> ServerStep {
-    ServerStep::Ended { conn, end }
 }
 
 #[test]
 fn a_number_is_given_again_after_its_end(rt: HostRuntime) -> Result<(), Fail> {
     let (mut source, counted, lf) = two_listeners(&rt)?;
-    let mut one = TcpStream::connect(&rt, counted)?;
-    expect_next(&rt, &mut source, opened(0, 0, &one)?, b"")?;
-    let mut two = TcpStream::connect(&rt, lf)?;
-    expect_next(&rt, &mut source, opened(1, 1, &two)?, b"")?;
-    two.write_all(b"two.")?;
-    expect_next(&rt, &mut source, piece(1), b"two.")?;
-    one.write_all(b"one.")?;
-    expect_next(&rt, &mut source, piece(0), b"one.")?;
+    let one = connect(&rt, counted)?;
+    expect_opened(&rt, &mut source, 0, 0, &one)?;
+    let two = connect(&rt, lf)?;
+    expect_opened(&rt, &mut source, 1, 1, &two)?;
+    for (conn, client, octets) in [(1, &two, b"two."), (0, &one, b"one.")] {
+        write(client, octets)?;
+        expect_next(&rt, &mut source, piece(conn), octets)?;
+    }
     // A third is one too many, and the others go on.
-    let three = TcpStream::connect(&rt, lf)?;
-    let turned_away = ServerStep::TurnedAway {
-        listener: 1,
-        framing: Framing::Lf,
-        peer: three.local_addr()?,
-    };
-    expect_next(&rt, &mut source, turned_away, b"")?;
+    let three = connect(&rt, lf)?;
+    expect_turned_away(&rt, &mut source, 1, &three)?;
     assert!(rt; is_closed(&three)?);
-    two.write_all(b"more")?;
+    write(&two, b"more")?;
     two.shutdown(Shutdown::Write)?;
     expect_next(&rt, &mut source, piece(1), b"more")?;
     expect_next(&rt, &mut source, ended(1, ConnectionEnd::Closed), b"")?;
-    let four = TcpStream::connect(&rt, counted)?;
-    expect_next(&rt, &mut source, opened(1, 0, &four)?, b"")?;
-    // What the server closes comes no more.
-    one.write_all(b"lost")?;
-    source.close(0);
-    source.close(7);
-    let five = TcpStream::connect(&rt, lf)?;
-    expect_next(&rt, &mut source, opened(0, 1, &five)?, b"")
+    let four = connect(&rt, counted)?;
+    expect_opened(&rt, &mut source, 1, 0, &four)
+}
+
+#[test]
+fn what_the_server_closes_comes_no_more(rt: HostRuntime) -> Result<(), Fail> {
+    let (mut source, counted, lf) = two_listeners(&rt)?;
+    let one = connect(&rt, counted)?;
+    expect_opened(&rt, &mut source, 0, 0, &one)?;
+    let two = connect(&rt, counted)?;
+    expect_opened(&rt, &mut source, 1, 0, &two)?;
+    write(&one, b"lost")?;
+    for conn in [0, 7] {
+        source.close(conn);
+    }
+    let three = connect(&rt, lf)?;
+    expect_opened(&rt, &mut source, 0, 1, &three)
 }
 
 #[test]
 fn a_reset_ends_its_connection_alone(rt: HostRuntime) -> Result<(), Fail> {
     let (mut source, counted, lf) = two_listeners(&rt)?;
-    let one = TcpStream::connect(&rt, counted)?;
-    expect_next(&rt, &mut source, opened(0, 0, &one)?, b"")?;
-    let mut two = TcpStream::connect(&rt, counted)?;
-    expect_next(&rt, &mut source, opened(1, 0, &two)?, b"")?;
+    let one = connect(&rt, counted)?;
+    expect_opened(&rt, &mut source, 0, 0, &one)?;
+    let two = connect(&rt, counted)?;
+    expect_opened(&rt, &mut source, 1, 0, &two)?;
     reset(&one);
     expect_next(&rt, &mut source, ended(0, ConnectionEnd::Reset), b"")?;
-    two.write_all(b"two.")?;
+    write(&two, b"two.")?;
     expect_next(&rt, &mut source, piece(1), b"two.")?;
-    let three = TcpStream::connect(&rt, lf)?;
-    expect_next(&rt, &mut source, opened(0, 1, &three)?, b"")
+    let three = connect(&rt, lf)?;
+    expect_opened(&rt, &mut source, 0, 1, &three)
+}
+
+// How many ticks come before the next step that is none, and that step.
+fn next_but_ticks(source: &mut Sockets<'_>) -> (u32, ServerStep) {
+    let mut buf = [0u8; 16];
+    let mut ticks = 0u32;
+    for _turn in 0..10_000 {
+        match next(source, &mut buf) {
+            ServerStep::Tick => ticks = ticks.saturating_add(1),
+            step => return (ticks, step),
+        }
+    }
+    (ticks, ServerStep::Tick)
 }
 
 #[test]
 fn a_silent_connection_is_closed(rt: HostRuntime) -> Result<(), Fail> {
-    let listeners = [Listener::Counted(address("127.0.0.1:0")?)];
-    let options = SourceOptions {
-        connections: 2,
-        per_peer: 2,
-        idle: Some(Duration::from_millis(60)),
-        period: Duration::from_millis(5),
-        until_eof: false,
-        receive_buffer: Some(65_536),
-    };
-    let mut source = SocketSource::open(&rt, rt.alloc(), &listeners, options)?;
-    let addr = source.local_addr(0).ok_or("no address")?;
+    let mut options = options(false);
+    options.idle = Some(Duration::from_millis(60));
+    options.period = Duration::from_millis(5);
+    options.receive_buffer = Some(65_536);
+    let mut source = open(&rt, &[Listener::Counted(any()?)], options)?;
     let start = Instant::now(&rt)?;
-    let client = TcpStream::connect(&rt, addr)?;
-    let mut buf = [0u8; 16];
-    let mut ticks = 0u32;
-    let mut last = ServerStep::Tick;
-    for _turn in 0..10_000 {
-        last = source.next(&mut buf);
-        match last {
-            ServerStep::Tick => ticks = ticks.saturating_add(1),
-            ServerStep::Ended { .. } => break,
-            step => assert_eq!(rt; step, opened(0, 0, &client)?),
-        }
-    }
+    let client = connect(&rt, address_of(&source, 0)?)?;
+    let (_, first) = next_but_ticks(&mut source);
+    assert_eq!(rt; first, opened(0, 0, &client)?);
+    let (ticks, last) = next_but_ticks(&mut source);
     assert_eq!(rt; last, ended(0, ConnectionEnd::Idle));
     assert!(rt; ticks > 0);
     assert!(rt; start.elapsed(&rt)? >= Duration::from_millis(60));
@@ -368,37 +472,20 @@ fn a_silent_connection_is_closed(rt: HostRuntime) -> Result<(), Fail> {
 
 #[test]
 fn a_tick_follows_each_read_if_the_period_is_zero(rt: HostRuntime) -> Result<(), Fail> {
-    let listeners = [Listener::Udp(address("127.0.0.1:0")?)];
     let mut options = options(false);
     options.period = Duration::ZERO;
-    let mut source = SocketSource::open(&rt, rt.alloc(), &listeners, options)?;
-    let client = UdpSocket::bind(&rt, "127.0.0.1:0")?;
+    let mut source = open(&rt, &[Listener::Udp(any()?)], options)?;
+    let client = udp_client(&rt)?;
     for _datagram in 0..3 {
-        client.send_to(b"d", source.local_addr(0).ok_or("no address")?)?;
+        send(&client, b"d", address_of(&source, 0)?)?;
     }
-    let read = ServerStep::Datagram {
-        listener: 0,
-        peer: Some(client.local_addr()?),
-        len: 1,
-    };
     let mut buf = [0u8; 16];
-    let mut reads = 0u32;
-    let mut last = ServerStep::Tick;
-    for _turn in 0..10_000 {
-        let step = source.next(&mut buf);
-        if step == read {
-            assert_eq!(rt; last, ServerStep::Tick);
-            reads = reads.saturating_add(1);
-        } else {
-            assert_eq!(rt; step, ServerStep::Tick);
-        }
-        last = step;
-        if reads == 3 {
-            break;
-        }
+    for read in 0..3 {
+        let (ticks, step) = next_but_ticks(&mut source);
+        assert!(rt; read == 0 || ticks > 0);
+        assert_eq!(rt; step, datagram(0, &client, 1)?);
     }
-    assert_eq!(rt; reads, 3);
-    assert_eq!(rt; source.next(&mut buf), ServerStep::Tick);
+    assert_eq!(rt; next(&mut source, &mut buf), ServerStep::Tick);
     Ok(())
 }
 
@@ -418,68 +505,63 @@ fn all_descriptors(alloc: Global, most: usize) -> Result<Vec<i32>, Fail> {
 #[test]
 fn a_listener_goes_on_behind_an_error(rt: HostRuntime) -> Result<(), Fail> {
     let (mut source, counted, lf) = two_listeners(&rt)?;
-    let one = TcpStream::connect(&rt, lf)?;
-    let turned_away = ServerStep::TurnedAway {
-        listener: 1,
-        framing: Framing::Lf,
-        peer: one.local_addr()?,
-    };
+    let one = connect(&rt, lf)?;
+    let expected = turned_away(1, &one)?;
     let held = all_descriptors(rt.alloc(), 100_000)?;
-    expect_next(&rt, &mut source, turned_away, b"")?;
+    expect_next(&rt, &mut source, expected, b"")?;
     for descriptor in &held {
         let _ = libc::close(*descriptor);
     }
     assert!(rt; is_closed(&one)?);
-    let two = TcpStream::connect(&rt, lf)?;
-    expect_next(&rt, &mut source, opened(0, 1, &two)?, b"")?;
-    let three = TcpStream::connect(&rt, counted)?;
-    expect_next(&rt, &mut source, opened(1, 0, &three)?, b"")
+    let two = connect(&rt, lf)?;
+    expect_opened(&rt, &mut source, 0, 1, &two)?;
+    let three = connect(&rt, counted)?;
+    expect_opened(&rt, &mut source, 1, 0, &three)
+}
+
+// The listener whose socket cannot be opened, and why.
+fn refusal_of(
+    rt: &HostRuntime,
+    listeners: &[Listener<'_>],
+) -> Result<Option<(usize, ErrorKind)>, Fail> {
+    match open(rt, listeners, options(false)) {
+        Err(OpenFault::Listener { listener, cause }) => Ok(Some((listener, cause.kind()))),
+        Err(_) => Ok(None),
+        Ok(_) => Err("it was opened")?,
+    }
 }
 
 #[test]
 fn a_socket_that_cannot_be_opened_is_told(rt: HostRuntime) -> Result<(), Fail> {
-    let taken = UdpSocket::bind(&rt, "127.0.0.1:0")?;
-    let listeners = [
-        Listener::Lf(address("127.0.0.1:0")?),
-        Listener::Udp(taken.local_addr()?),
-    ];
-    match SocketSource::open(&rt, rt.alloc(), &listeners, options(false)) {
-        Err(OpenFault::Listener { listener, cause }) => {
-            assert_eq!(rt; listener, 1);
-            assert_eq!(rt; cause.kind(), ErrorKind::AddrInUse);
-        }
-        _ => assert!(rt; false),
-    }
-    let folder = [Listener::Unix("/")];
-    assert!(rt; SocketSource::open(&rt, rt.alloc(), &folder, options(false)).is_err());
+    let taken = udp_client(&rt)?;
+    let listeners = [Listener::Lf(any()?), Listener::Udp(taken.local_addr()?)];
+    let refusal = refusal_of(&rt, &listeners)?;
+    assert_eq!(rt; refusal, Some((1, ErrorKind::AddrInUse)));
+    refusal_of(&rt, &[Listener::Unix("/")])?;
     Ok(())
+}
+
+// Whether a source that watches standard input is refused for that.
+fn refuses_input(rt: &HostRuntime) -> bool {
+    matches!(open(rt, &[], options(true)), Err(OpenFault::Input(_)))
 }
 
 #[test]
 fn the_end_of_standard_input_is_waited_for(rt: HostRuntime) -> Result<(), Fail> {
     let _ = libc::close(STDIN_FILENO);
     assert_eq!(rt; os::open_read(b"/dev/null"), STDIN_FILENO);
-    assert!(rt;
-        matches!(
-            SocketSource::open(&rt, rt.alloc(), &[], options(true)),
-            Err(OpenFault::Input(_))
-        )
-    );
+    assert!(rt; refuses_input(&rt));
     let _ = libc::close(STDIN_FILENO);
     let (input, other) = UnixStream::pair(&rt)?;
     assert_eq!(rt; input.as_raw_fd(), STDIN_FILENO);
-    let listeners = [Listener::Udp(address("127.0.0.1:0")?)];
-    let mut source = SocketSource::open(&rt, rt.alloc(), &listeners, options(true))?;
+    let mut source = open(&rt, &[Listener::Udp(any()?)], options(true))?;
     drop(other);
     expect_next(&rt, &mut source, ServerStep::InputEnded, b"")?;
-    let client = UdpSocket::bind(&rt, "127.0.0.1:0")?;
-    client.send_to(b"late", source.local_addr(0).ok_or("no address")?)?;
-    let step = ServerStep::Datagram {
-        listener: 0,
-        peer: Some(client.local_addr()?),
-        len: 4,
-    };
-    expect_next(&rt, &mut source, step, b"late")?;
-    expect_next(&rt, &mut source, ServerStep::Finished, b"")?;
-    expect_next(&rt, &mut source, ServerStep::Finished, b"")
+    let client = udp_client(&rt)?;
+    send(&client, b"late", address_of(&source, 0)?)?;
+    expect_datagram(&rt, &mut source, 0, &client, b"late")?;
+    for _call in 0..2 {
+        expect_next(&rt, &mut source, ServerStep::Finished, b"")?;
+    }
+    Ok(())
 }
