@@ -1,5 +1,6 @@
 -- What a store keeps through its calls.
 use Rattle.std.proofs.Common.{⊎_elim, inl, List, ◌++◌}
+use Rattle.std.specs.Prelude.{Result, Ok, Err, OnErr, OnOk}
 use Rattle.disk.specs.States.{State}
 use Rattle.archive_text.specs.Entries.{Entry, Has}
 use Rattle.archive_text.proofs.Members.{has_left, has_right}
@@ -54,6 +55,24 @@ turn_kept old new was is k on kept = record {
       (kept.waits x h));
 }
 
+-- all that is held is committed then
+pub turn_commits : (old new : DurableStore) (was is : State) (k : Kept)
+    → ((sets : Sets) → Stands old was sets → Stands new is (turned sets)) → IsKept old was k
+    → IsKept new is (all_kept k)
+turn_commits old new was is k on kept = record {
+  sets = turned kept.sets;
+  stands = on kept.sets kept.stands;
+  held = kept.held;
+  committed = now;
+  waits = λ x h. inl (now x h);
+}
+  where
+    now : (x : Entry) → Has k.held x → Has (kept.sets.committed ++ kept.sets.since) x
+    now x h = ⊎_elim
+        (λ before. has_left kept.sets.committed kept.sets.since x before)
+        (λ waits. has_right kept.sets.committed kept.sets.since x (kept.stands.journal.waits x waits))
+        (kept.waits x h)
+
 -- a store that was opened where every crash leaves the same
 pub open_kept : (store : DurableStore) (state : State) (es since : List Entry)
     → Stands store state (begun es es since) → IsKept store state (kept_whole es)
@@ -72,3 +91,13 @@ kept_keeps store state k kept = record {
   nothing_lost = λ files may e h. kept.stands.journal.keeps.nothing_lost files may e (kept.committed e h);
   nothing_forged = λ files may e h. (kept.held e).1 (kept.stands.journal.keeps.nothing_forged files may e h);
 }
+
+-- where it was done
+pub on_ok : {A E : Type 0} (r : Result A E) (P Q : Type 0) → OnOk r P → (P → Q) → OnOk r Q
+on_ok (Ok a) P Q h f = f h
+on_ok (Err e) P Q h f = tt
+
+-- or was not
+pub on_err : {A E : Type 0} (r : Result A E) (P : Type 0) → P → OnErr r P
+on_err (Ok a) P h = tt
+on_err (Err e) P h = h

@@ -1,5 +1,5 @@
 -- What a durable store keeps of what a server hands over.
-use Rattle.std.specs.Prelude.{◌≡◌, ◌↔◌, ◌⊎◌, List, [], ◌∷◌, ◌++◌}
+use Rattle.std.specs.Prelude.{◌≡◌, ◌↔◌, ◌⊎◌, List, ◌++◌}
 use Rattle.disk.specs.States.{State}
 use Rattle.archive_pages.specs.Paged.{entries_from, entries_in}
 use Rattle.archive_pages.specs.declared.paged.PagedArchive.{PagedArchive}

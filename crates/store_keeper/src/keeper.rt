@@ -52,7 +52,7 @@ impl<D: Disk + Drop> DiskKeeper<D> {
     ghost use Rattle.record_store.specs.Stores.{AreAmong, begun};
     ghost use Rattle.durable_store.specs.Asides.{SetsTailsAside, asides_of};
     ghost use Rattle.durable_store.specs.Durables.{IsBroken, Stands, entries_of};
-    ghost use Rattle.serve_engine.specs.Keepings.{Kept};
+    ghost use Rattle.serve_engine.specs.Keepings.{Kept, all_committed};
     ghost use Rattle.store_keeper.specs.Keepers.{KeepsOn, disk_of, store_of};
     ghost use Rattle.store_keeper.specs.Keeping.{kept_whole, with_held};
     ghost use Rattle.store_keeper.specs.Spares.{pages_of, spared_entries};
@@ -97,14 +97,38 @@ impl<D: Disk + Drop> DiskKeeper<D> {
         self.disk.inner()
     }
 
-    // Moves what is in memory to other files.
-    fn write_out(&mut self, alloc: Global) -> Result<(), KeepFault>
+    // Opens the store again. Once a sync has failed it opens nothing: what a read shows then is not what
+    // the disk has.
+    fn open_again(&mut self, alloc: Global) -> Result<(), KeepFault>
         ensures { (k : Kept) → KeepsOn self.old k → KeepsOn self.new k }
+    {
+        if !self.disk.is_sound() {
+            return Err(KeepFault::Failed);
+        }
+        match self.store.reopen(alloc, &mut self.disk) {
+            Ok(()) => Ok(()),
+            Err(cause) => Err(fault_of(cause)),
+        }
+    }
+
+    // Moves what is in memory to other files. All of it is committed then.
+    fn write_out(&mut self, alloc: Global) -> Result<(), KeepFault>
+        ensures kept { (k : Kept) → KeepsOn self.old k → KeepsOn self.new k }
+        ensures done { OnOk result ((k : Kept) → KeepsOn self.old k → KeepsOn self.new (all_committed k)) }
     {
         match self.store.checkpoint(alloc, &mut self.disk) {
             Ok(()) => Ok(()),
             Err(fault) => Err(fault_of_checkpoint(fault)),
         }
+    }
+
+    // Commits by a checkpoint, where there was no memory for a batch.
+    fn commit_anew(&mut self, alloc: Global) -> Result<(), KeepFault>
+        ensures kept { (k : Kept) → KeepsOn self.old k → KeepsOn self.new k }
+        ensures done { OnOk result ((k : Kept) → KeepsOn self.old k → KeepsOn self.new (all_committed k)) }
+    {
+        self.open_again(alloc)?;
+        self.write_out(alloc)
     }
 
     // Frees the memory of what is in memory, if anything is.
@@ -180,19 +204,15 @@ impl<D: Disk + Drop> Keeping<SparedSet> for DiskKeeper<D> {
     fn commit(&mut self, alloc: Global) -> Result<(), KeepFault> {
         match self.store.commit(alloc, &mut self.disk) {
             Ok(()) => Ok(()),
-            Err(fault) => Err(fault_of(fault)),
+            Err(fault) => match fault_of(fault) {
+                KeepFault::Memory => self.commit_anew(alloc),
+                fault => Err(fault),
+            },
         }
     }
 
-    // Once a sync has failed it opens nothing: what a read shows then is not what the disk has.
     fn reopen(&mut self, alloc: Global) -> Result<(), KeepFault> {
-        if !self.disk.is_sound() {
-            return Err(KeepFault::Failed);
-        }
-        match self.store.reopen(alloc, &mut self.disk) {
-            Ok(()) => Ok(()),
-            Err(cause) => Err(fault_of(cause)),
-        }
+        self.open_again(alloc)
     }
 
     fn checkpoint(&mut self, alloc: Global) -> Result<(), KeepFault> {

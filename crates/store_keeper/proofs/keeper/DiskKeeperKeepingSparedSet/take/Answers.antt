@@ -1,4 +1,4 @@
-use Rattle.std.proofs.Common.{[], subst, sym}
+use Rattle.std.proofs.Common.{[]}
 use Rattle.store_keeper.specs.Keeping.{with_held}
 use Rattle.store_keeper.specs.Spares.{spared_entries}
 use Rattle.store_keeper.proofs.Taking.{handed_all, handed_some, none}
