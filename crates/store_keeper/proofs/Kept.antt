@@ -1,6 +1,5 @@
 -- What a store keeps through its calls.
 use Rattle.std.proofs.Common.{⊎_elim, inl, List, ◌++◌}
-use Rattle.std.specs.Prelude.{Result, Ok, Err, OnErr, OnOk}
 use Rattle.disk.specs.States.{State}
 use Rattle.archive_text.specs.Entries.{Entry, Has}
 use Rattle.archive_text.proofs.Members.{has_left, has_right}
@@ -91,13 +90,3 @@ kept_keeps store state k kept = record {
   nothing_lost = λ files may e h. kept.stands.journal.keeps.nothing_lost files may e (kept.committed e h);
   nothing_forged = λ files may e h. (kept.held e).1 (kept.stands.journal.keeps.nothing_forged files may e h);
 }
-
--- where it was done
-pub on_ok : {A E : Type 0} (r : Result A E) (P Q : Type 0) → OnOk r P → (P → Q) → OnOk r Q
-on_ok (Ok a) P Q h f = f h
-on_ok (Err e) P Q h f = tt
-
--- or was not
-pub on_err : {A E : Type 0} (r : Result A E) (P : Type 0) → P → OnErr r P
-on_err (Ok a) P h = tt
-on_err (Err e) P h = h

@@ -10,13 +10,26 @@ use durable_store::{CheckpointFault, DurableStore, OpenFault, SetAside};
 use journal::JournalFault;
 use record_store::{KeepFault as SegmentFault, StoreFault};
 use serve_engine::{KeepFault, Keeping, Taken};
-use std::alloc::Global;
+use std::alloc::{AllocError, Global};
 
 /// A durable store and the disk that it is on, as what keeps the records of a server.
 #[derive(Drop)]
 pub struct DiskKeeper<D: Disk> {
     store: DurableStore,
     disk: WatchedDisk<D>,
+}
+
+// Room for a batch's head and seal.
+const SEAL_ROOM: usize = 64;
+
+// Whether there is memory for a batch of so many octets: for the room into which it grows with its seal,
+// and for its copy.
+fn has_room(alloc: Global, waiting: usize) -> bool {
+    let room: Result<Vec<u8>, AllocError> = Vec::with_capacity(
+        alloc,
+        waiting.saturating_mul(3).saturating_add(SEAL_ROOM),
+    );
+    room.is_ok()
 }
 
 // What a fault of the store means to a server.
@@ -97,20 +110,6 @@ impl<D: Disk + Drop> DiskKeeper<D> {
         self.disk.inner()
     }
 
-    // Opens the store again. Once a sync has failed it opens nothing: what a read shows then is not what
-    // the disk has.
-    fn open_again(&mut self, alloc: Global) -> Result<(), KeepFault>
-        ensures { (k : Kept) → KeepsOn self.old k → KeepsOn self.new k }
-    {
-        if !self.disk.is_sound() {
-            return Err(KeepFault::Failed);
-        }
-        match self.store.reopen(alloc, &mut self.disk) {
-            Ok(()) => Ok(()),
-            Err(cause) => Err(fault_of(cause)),
-        }
-    }
-
     // Moves what is in memory to other files. All of it is committed then.
     fn write_out(&mut self, alloc: Global) -> Result<(), KeepFault>
         ensures kept { (k : Kept) → KeepsOn self.old k → KeepsOn self.new k }
@@ -120,15 +119,6 @@ impl<D: Disk + Drop> DiskKeeper<D> {
             Ok(()) => Ok(()),
             Err(fault) => Err(fault_of_checkpoint(fault)),
         }
-    }
-
-    // Commits by a checkpoint, where there was no memory for a batch.
-    fn commit_anew(&mut self, alloc: Global) -> Result<(), KeepFault>
-        ensures kept { (k : Kept) → KeepsOn self.old k → KeepsOn self.new k }
-        ensures done { OnOk result ((k : Kept) → KeepsOn self.old k → KeepsOn self.new (all_committed k)) }
-    {
-        self.open_again(alloc)?;
-        self.write_out(alloc)
     }
 
     // Frees the memory of what is in memory, if anything is.
@@ -201,18 +191,26 @@ impl<D: Disk + Drop> Keeping<SparedSet> for DiskKeeper<D> {
         Ok(taken)
     }
 
+    // Where there is no memory for a batch, a checkpoint commits what it would have had.
     fn commit(&mut self, alloc: Global) -> Result<(), KeepFault> {
+        if !has_room(alloc, self.store.waiting()) {
+            return self.write_out(alloc);
+        }
         match self.store.commit(alloc, &mut self.disk) {
             Ok(()) => Ok(()),
-            Err(fault) => match fault_of(fault) {
-                KeepFault::Memory => self.commit_anew(alloc),
-                fault => Err(fault),
-            },
+            Err(fault) => Err(fault_of(fault)),
         }
     }
 
+    // Once a sync has failed it opens nothing: what a read shows then is not what the disk has.
     fn reopen(&mut self, alloc: Global) -> Result<(), KeepFault> {
-        self.open_again(alloc)
+        if !self.disk.is_sound() {
+            return Err(KeepFault::Failed);
+        }
+        match self.store.reopen(alloc, &mut self.disk) {
+            Ok(()) => Ok(()),
+            Err(cause) => Err(fault_of(cause)),
+        }
     }
 
     fn checkpoint(&mut self, alloc: Global) -> Result<(), KeepFault> {

@@ -1,5 +1,5 @@
 use Rattle.store_keeper.proofs.Kept.{same_kept}
-use Rattle.store_keeper.proofs.keeper.DiskKeeper.open_again.Goals as goal
+use Rattle.store_keeper.proofs.keeper.DiskKeeperKeepingSparedSet.reopen.Goals as goal
 
 pub returns-in-Ok : goal.returns-in-Ok
 returns-in-Ok g c k stands tells =
