@@ -17,6 +17,20 @@ use std::alloc::{AllocError, Global};
 pub struct DiskKeeper<D: Disk> {
     store: DurableStore,
     disk: WatchedDisk<D>,
+    // memory that is held back for checkpoints
+    reserve: Vec<u8>,
+}
+
+// How many octets are held back for checkpoints: as many as pages take at once, so that they are found
+// again once a checkpoint has freed the pages of the set.
+const RESERVE: usize = 1 << 20;
+
+// Holds them back, if there is room.
+fn reserve(alloc: Global) -> Vec<u8> {
+    match Vec::with_capacity(alloc, RESERVE) {
+        Ok(reserve) => reserve,
+        Err(_) => Vec::new(alloc),
+    }
 }
 
 // Room for a batch's head and seal.
@@ -89,7 +103,11 @@ impl<D: Disk + Drop> DiskKeeper<D> {
     {
         let mut disk = WatchedDisk::new(sound);
         match DurableStore::open(alloc, &mut disk) {
-            Ok(store) => Ok(DiskKeeper { store, disk }),
+            Ok(store) => Ok(DiskKeeper {
+                store,
+                disk,
+                reserve: reserve(alloc),
+            }),
             Err(fault) => Err((fault, disk.into_inner())),
         }
     }
@@ -115,7 +133,10 @@ impl<D: Disk + Drop> DiskKeeper<D> {
         ensures kept { (k : Kept) → KeepsOn self.old k → KeepsOn self.new k }
         ensures done { OnOk result ((k : Kept) → KeepsOn self.old k → KeepsOn self.new (all_committed k)) }
     {
-        match self.store.checkpoint(alloc, &mut self.disk) {
+        self.reserve = Vec::new(alloc);
+        let done = self.store.checkpoint(alloc, &mut self.disk);
+        self.reserve = reserve(alloc);
+        match done {
             Ok(()) => Ok(()),
             Err(fault) => Err(fault_of_checkpoint(fault)),
         }
