@@ -1,6 +1,6 @@
 //! Collectors over both stores.
 
-use crate::support::{A, ARCHIVE, B, C, collector, run_of, text_of};
+use crate::support::{A, ARCHIVE, B, C, collector, run_of, see_text, text_of};
 use archive_laws::same_records_have_one_text;
 use archive_pages::PagedArchive;
 use archive_text::Store;
@@ -114,9 +114,8 @@ fn collectors_of_the_same_records_have_one_archive(rt: HostRuntime) -> Result<()
     let two = receiver(alloc, PagedArchive::new(alloc), &[C, A, B, A])?;
     same_archives(&one, &two);
     same_records_have_one_text(one.store(), two.store());
-    assert_eq!(rt; text_of(alloc, one.store())?.as_slice(), ARCHIVE);
-    assert_eq!(rt; text_of(alloc, two.store())?.as_slice(), ARCHIVE);
-    Ok(())
+    see_text(&rt, &one, ARCHIVE)?;
+    see_text(&rt, &two, ARCHIVE)
 }
 
 #[test]
@@ -128,8 +127,7 @@ fn archives_of_two_collectors_merge_to_that_of_one(rt: HostRuntime) -> Result<()
     merged_archives(&left, &right, &all);
     let merged = merge(alloc, left.store(), right.store())?;
     assert_eq!(rt; text_of(alloc, &merged)?.as_slice(), ARCHIVE);
-    assert_eq!(rt; text_of(alloc, all.store())?.as_slice(), ARCHIVE);
-    Ok(())
+    see_text(&rt, &all, ARCHIVE)
 }
 
 #[test]

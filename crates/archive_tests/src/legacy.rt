@@ -1,10 +1,12 @@
 //! Collectors that read legacy packets (RFC 3164) under a clock.
 
-use crate::support::{A, collected, collector_under, in_two_pieces, run_of, text_of};
+use crate::support::{
+    A, advanced, collected, collector_under, in_two_pieces, run_of, see_answers, see_text,
+};
 use archive_vec::VecArchive;
 use std::process::Abort;
 use std::test::Fail;
-use syslog_collect::{Advance, Event, Outcome, RunEnd};
+use syslog_collect::{Event, Outcome, RunEnd};
 use syslog_frame::Framing;
 use syslog_grammar::{Fault, Field};
 use syslog_legacy::LegacyClock;
@@ -141,16 +143,22 @@ fn without_a_clock_a_legacy_packet_is_no_record(rt: HostRuntime) -> Result<(), F
 fn a_legacy_line_is_taken_as_far_as_its_end(rt: HostRuntime) -> Result<(), Fail> {
     let alloc = rt.alloc();
     let mut collector = collector_under(alloc, Some(clock()?), VecArchive::new(alloc))?;
-    assert_eq!(rt; collector.open_conn(alloc, 9, Framing::Lf), Ok(()));
-    let first = Advance {
-        used: 42,
-        outcome: Some(Outcome::New),
+    let framing = Framing::Lf;
+    let piece = Event::Piece {
+        conn: 9,
+        octets: LINES,
     };
-    assert_eq!(rt; collector.advance(alloc, 9, LINES), Ok(first));
-    assert_eq!(rt; collector.datagram(alloc, CRON), Ok(Outcome::Held));
-    assert_eq!(rt; collector.end_conn(9), Ok(()));
-    let text = text_of(alloc, collector.store())?;
-    let expected = b"57 <13>1 2001-02-05T22:32:18.000000Z 10.0.0.99 cron 42 - - x".as_slice();
-    assert_eq!(rt; text.as_slice(), expected);
-    Ok(())
+    let datagram = Event::Datagram { octets: CRON };
+    see_answers(
+        &rt,
+        &mut collector,
+        &[
+            (Event::Opened { conn: 9, framing }, Ok(None)),
+            (piece, Ok(advanced(42, Outcome::New))),
+            (datagram, Ok(advanced(CRON.len(), Outcome::Held))),
+            (Event::Ended { conn: 9 }, Ok(None)),
+        ],
+    );
+    let expected = b"57 <13>1 2001-02-05T22:32:18.000000Z 10.0.0.99 cron 42 - - x";
+    see_text(&rt, &collector, expected)
 }

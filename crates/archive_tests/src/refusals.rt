@@ -1,6 +1,6 @@
 //! What a collector refuses, and what it goes on with.
 
-use crate::support::{A, collected, collector, in_two_pieces, text_of};
+use crate::support::{advanced, collected, collector, in_two_pieces, see_answers, see_text};
 use archive_pages::PagedArchive;
 use archive_vec::VecArchive;
 use std::alloc::Global;
@@ -16,91 +16,124 @@ const A_AS_A_LINE: &[u8] = b"<13>1 - h a - - - x\n";
 
 const A_COUNTED: &[u8] = b"19 <13>1 - h a - - - x";
 
+/// What a collector answers to an event.
+type Answer = Result<Option<Advance>, CollectFault>;
+
+const ALREADY_OPEN: Answer = Err(CollectFault::AlreadyOpen);
+
+const NOT_OPEN: Answer = Err(CollectFault::NotOpen);
+
+const TOO_MANY_OPEN: Answer = Err(CollectFault::TooManyOpen);
+
+/// A connection of lines is opened.
+fn lf(conn: u32) -> Event<'static> {
+    let framing = Framing::Lf;
+    Event::Opened { conn, framing }
+}
+
+/// A counted connection is opened.
+fn counted(conn: u32) -> Event<'static> {
+    let framing = Framing::Counted;
+    Event::Opened { conn, framing }
+}
+
+fn piece<'a>(conn: u32, octets: &'a [u8]) -> Event<'a> {
+    Event::Piece { conn, octets }
+}
+
+fn ended(conn: u32) -> Event<'static> {
+    Event::Ended { conn }
+}
+
 #[test]
 fn at_most_so_many_connections_are_opened(rt: HostRuntime) -> Result<(), Fail> {
-    let alloc = rt.alloc();
-    let mut collector = collector(alloc, VecArchive::new(alloc))?;
+    let mut collector = collector(rt.alloc(), VecArchive::new(rt.alloc()))?;
     assert_eq!(rt; CONNECTIONS_MAX, 64);
-    assert_eq!(rt; collector.open_conn(alloc, 7, Framing::Lf), Ok(()));
-    let again = collector.open_conn(alloc, 7, Framing::Counted);
-    assert_eq!(rt; again, Err(CollectFault::AlreadyOpen));
+    see_answers(
+        &rt,
+        &mut collector,
+        &[(lf(7), Ok(None)), (counted(7), ALREADY_OPEN)],
+    );
     for conn in 101..164 {
-        assert_eq!(rt; collector.open_conn(alloc, conn, Framing::Counted), Ok(()));
+        see_answers(&rt, &mut collector, &[(counted(conn), Ok(None))]);
     }
-    let one_more = collector.open_conn(alloc, 164, Framing::Lf);
-    assert_eq!(rt; one_more, Err(CollectFault::TooManyOpen));
-    let again = collector.open_conn(alloc, 163, Framing::Lf);
-    assert_eq!(rt; again, Err(CollectFault::AlreadyOpen));
-    assert_eq!(rt; collector.end_conn(101), Ok(()));
-    assert_eq!(rt; collector.open_conn(alloc, 164, Framing::Lf), Ok(()));
     let nothing = Advance {
         used: 0,
         outcome: None,
     };
-    assert_eq!(rt; collector.advance(alloc, 7, b""), Ok(nothing));
-    let never_opened = collector.advance(alloc, 8, A_AS_A_LINE);
-    assert_eq!(rt; never_opened, Err(CollectFault::NotOpen));
-    let ended = collector.advance(alloc, 101, A_COUNTED);
-    assert_eq!(rt; ended, Err(CollectFault::NotOpen));
-    assert_eq!(rt; collector.end_conn(8), Err(CollectFault::NotOpen));
+    see_answers(
+        &rt,
+        &mut collector,
+        &[
+            (lf(164), TOO_MANY_OPEN),
+            (lf(163), ALREADY_OPEN),
+            (ended(101), Ok(None)),
+            (lf(164), Ok(None)),
+            (piece(7, b""), Ok(Some(nothing))),
+            (piece(8, A_AS_A_LINE), NOT_OPEN),
+            (piece(101, A_COUNTED), NOT_OPEN),
+            (ended(8), NOT_OPEN),
+        ],
+    );
     Ok(())
+}
+
+/// A collector of as many connections as are asked for.
+fn collector_of(alloc: Global, connections: usize) -> Result<Collector<VecArchive>, Fail> {
+    let store = VecArchive::new(alloc);
+    let reading = FrameReading::from(None);
+    match Collector::with_connections(alloc, store, reading, connections) {
+        Ok(collector) => Ok(collector),
+        Err(_) => Err("no memory")?,
+    }
 }
 
 #[test]
 fn as_many_connections_are_opened_as_are_asked_for(rt: HostRuntime) -> Result<(), Fail> {
-    let alloc = rt.alloc();
     assert_eq!(rt; CONNECTIONS_LIMIT, 16_384);
     for (asked, most) in [(1, 64_u32), (200, 200)] {
-        let store = VecArchive::new(alloc);
-        let reading = FrameReading::from(None);
-        let Ok(mut collector) = Collector::with_connections(alloc, store, reading, asked) else {
-            return Err("no memory")?;
-        };
+        let mut collector = collector_of(rt.alloc(), asked)?;
         for place in 0..most {
             let conn = place.wrapping_mul(0x9E37_79B1);
-            assert_eq!(rt; collector.open_conn(alloc, conn, Framing::Lf), Ok(()));
+            see_answers(&rt, &mut collector, &[(lf(conn), Ok(None))]);
         }
-        let one_more = collector.open_conn(alloc, 1, Framing::Lf);
-        assert_eq!(rt; one_more, Err(CollectFault::TooManyOpen), "above {most}");
-        let whole = collector.advance(alloc, 0, A_AS_A_LINE);
-        assert!(rt; whole.is_ok());
-        assert_eq!(rt; collector.end_conn(0x9E37_79B1), Ok(()));
-        assert_eq!(rt; collector.end_conn(0x9E37_79B1), Err(CollectFault::NotOpen));
-        assert_eq!(rt; collector.open_conn(alloc, 1, Framing::Lf), Ok(()));
-        assert_eq!(rt; text_of(alloc, collector.store())?.as_slice(), A_COUNTED);
+        let whole = advanced(A_AS_A_LINE.len(), Outcome::New);
+        see_answers(
+            &rt,
+            &mut collector,
+            &[
+                (lf(1), TOO_MANY_OPEN),
+                (piece(0, A_AS_A_LINE), Ok(whole)),
+                (ended(0x9E37_79B1), Ok(None)),
+                (ended(0x9E37_79B1), NOT_OPEN),
+                (lf(1), Ok(None)),
+            ],
+        );
+        see_text(&rt, &collector, A_COUNTED)?;
     }
     Ok(())
 }
 
 #[test]
 fn a_bad_count_closes_its_connection_alone(rt: HostRuntime) -> Result<(), Fail> {
-    let alloc = rt.alloc();
-    let mut collector = collector(alloc, PagedArchive::new(alloc))?;
-    assert_eq!(rt; collector.open_conn(alloc, 1, Framing::Counted), Ok(()));
-    assert_eq!(rt; collector.open_conn(alloc, 2, Framing::Counted), Ok(()));
-    let bad = Advance {
-        used: 0,
-        outcome: Some(Outcome::BadCount { at: 0 }),
-    };
-    assert_eq!(rt; collector.advance(alloc, 1, b"x"), Ok(bad));
-    let more = collector.advance(alloc, 1, A_COUNTED);
-    assert_eq!(rt; more, Err(CollectFault::ConnFailed));
-    let new = Advance {
-        used: A_COUNTED.len(),
-        outcome: Some(Outcome::New),
-    };
-    assert_eq!(rt; collector.advance(alloc, 2, A_COUNTED), Ok(new));
-    assert_eq!(rt; collector.end_conn(1), Ok(()));
-    assert_eq!(rt; collector.end_conn(1), Err(CollectFault::NotOpen));
-    assert_eq!(rt; collector.open_conn(alloc, 1, Framing::Counted), Ok(()));
-    let held = Advance {
-        used: A_COUNTED.len(),
-        outcome: Some(Outcome::Held),
-    };
-    assert_eq!(rt; collector.advance(alloc, 1, A_COUNTED), Ok(held));
-    let text = text_of(alloc, collector.store())?;
-    assert_eq!(rt; text.as_slice(), A_COUNTED);
-    Ok(())
+    let mut collector = collector(rt.alloc(), PagedArchive::new(rt.alloc()))?;
+    let bad = advanced(0, Outcome::BadCount { at: 0 });
+    see_answers(
+        &rt,
+        &mut collector,
+        &[
+            (counted(1), Ok(None)),
+            (counted(2), Ok(None)),
+            (piece(1, b"x"), Ok(bad)),
+            (piece(1, A_COUNTED), Err(CollectFault::ConnFailed)),
+            (piece(2, A_COUNTED), Ok(advanced(22, Outcome::New))),
+            (ended(1), Ok(None)),
+            (ended(1), NOT_OPEN),
+            (counted(1), Ok(None)),
+            (piece(1, A_COUNTED), Ok(advanced(22, Outcome::Held))),
+        ],
+    );
+    see_text(&rt, &collector, A_COUNTED)
 }
 
 /// A line of no octets, one of one octet, one that is longer than a frame may be, and a record.

@@ -7,7 +7,7 @@ use octet_devices::ToWrite;
 use std::alloc::Global;
 use std::process::Abort;
 use std::test::Fail;
-use syslog_collect::{Collector, Event, Outcome, RunEnd};
+use syslog_collect::{Advance, CollectFault, Collector, Event, Outcome, RunEnd};
 use syslog_frame::Framing;
 use syslog_grammar::view;
 use syslog_legacy::LegacyClock;
@@ -125,4 +125,59 @@ pub fn in_two_pieces<'a>(framing: Framing, pieces: (&'a [u8], &'a [u8])) -> [Eve
         },
         Event::Ended { conn: 1 },
     ]
+}
+
+/// What a collector answers to one event: of a piece, how far it advances in it.
+pub fn answer_to<S: Store + Drop>(
+    alloc: Global,
+    collector: &mut Collector<S>,
+    event: Event<'_>,
+) -> Result<Option<Advance>, CollectFault> {
+    match event {
+        Event::Opened { conn, framing } => match collector.open_conn(alloc, conn, framing) {
+            Ok(()) => Ok(None),
+            Err(fault) => Err(fault),
+        },
+        Event::Piece { conn, octets } => match collector.advance(alloc, conn, octets) {
+            Ok(advance) => Ok(Some(advance)),
+            Err(fault) => Err(fault),
+        },
+        Event::Ended { conn } => match collector.end_conn(conn) {
+            Ok(()) => Ok(None),
+            Err(fault) => Err(fault),
+        },
+        Event::Datagram { octets } => match collector.datagram(alloc, octets) {
+            Ok(outcome) => Ok(advanced(octets.len(), outcome)),
+            Err(_) => Err(CollectFault::Memory { used: 0 }),
+        },
+    }
+}
+
+/// An advance by so many octets, at which a frame was handled.
+pub fn advanced(used: usize, outcome: Outcome) -> Option<Advance> {
+    let outcome = Some(outcome);
+    Some(Advance { used, outcome })
+}
+
+/// Sees that a collector answers this to each event.
+pub fn see_answers<S: Store + Drop>(
+    rt: &(impl Abort + AllocGlobal),
+    collector: &mut Collector<S>,
+    rows: &[(Event<'_>, Result<Option<Advance>, CollectFault>)],
+) {
+    for (n, (event, expected)) in rows.iter().enumerate() {
+        let answer = answer_to(rt.alloc(), collector, *event);
+        assert_eq!(rt; answer, *expected, "event {n}");
+    }
+}
+
+/// Sees that the archive of a collector is this text.
+pub fn see_text<S: Store + Drop>(
+    rt: &(impl Abort + AllocGlobal),
+    collector: &Collector<S>,
+    expected: &[u8],
+) -> Result<(), Fail> {
+    let text = text_of(rt.alloc(), collector.store())?;
+    assert_eq!(rt; text.as_slice(), expected);
+    Ok(())
 }

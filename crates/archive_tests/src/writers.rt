@@ -44,10 +44,11 @@ fn each_octet_fails<S: Store>(rt: &(impl Abort + AllocGlobal), store: &S) {
 #[test]
 fn a_short_archive_is_written_up_to_the_failure(rt: HostRuntime) -> Result<(), Fail> {
     let alloc = rt.alloc();
-    let left = store_of(alloc, VecArchive::new(alloc), &[A, C])?;
-    let right = store_of(alloc, VecArchive::new(alloc), &[A, B])?;
-    each_octet_fails(&rt, &merge(alloc, &left, &right)?);
-    each_octet_fails(&rt, &merge(alloc, &right, &left)?);
+    for (left, right) in [([A, C], [A, B]), ([A, B], [A, C])] {
+        let left = store_of(alloc, VecArchive::new(alloc), &left)?;
+        let right = store_of(alloc, VecArchive::new(alloc), &right)?;
+        each_octet_fails(&rt, &merge(alloc, &left, &right)?);
+    }
     let paged = store_of(alloc, PagedArchive::new(alloc), &[B, A, C])?;
     each_octet_fails(&rt, &paged);
     Ok(())
