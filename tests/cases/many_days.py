@@ -84,7 +84,7 @@ def some_large(runs, days):
     large = [of_day(number, 60_000) for number in range(0, days, days // 20)]
     small = [of_day(number) for number in range(1, days, 9) if number % (days // 20)]
     padding = [of_day(0, 19_000 + number) for number in range(60)]
-    sent = [*large, *small, *padding]
+    sent = [*small, *large, *padding]
     periods, checkpoints = kept(runs, "some large days", sent)
     both = b"mixed" in periods and len(set(periods)) > 2
     runs.results.check("some large days: segments of their own", both, str(periods))
