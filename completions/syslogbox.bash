@@ -16,7 +16,7 @@ _syslogbox_options() {
         archive)
             echo "--framing --trim --legacy --zone --dialect --spill --memory --help"
             ;;
-        merge | migrate | union | common | minus | diff | root | verify | compact)
+        merge | migrate | union | common | minus | diff | root | prove | confirm | verify | compact)
             echo "--help"
             ;;
         select)
@@ -25,6 +25,9 @@ _syslogbox_options() {
             ;;
         digest)
             echo "--by --help"
+            ;;
+        count)
+            echo "--by --top --json --bars --help"
             ;;
         read)
             echo "--from --to --undated --help"
@@ -52,10 +55,10 @@ _syslogbox_value() {
         "convert --zone" | "archive --legacy" | "archive --zone" | "archive --memory" | "select --from" | \
         "select --to" | "select --host" | "select --app" | "select --proc" | "select --msgid" | "select --id" | \
         "select --message" | "select --host-like" | "select --app-like" | "select --not-host" | "select --not-app" | \
-        "select --not-message" | "read --from" | "read --to" | "send --host" | "send --app" | "send --proc" | \
-        "send --msgid" | "send --micros" | "collect --legacy" | "collect --zone" | "serve --udp" | \
-        "serve --counted" | "serve --lf" | "serve --connections" | "serve --per-peer" | "serve --idle" | \
-        "serve --commit" | "serve --checkpoint" | "serve --legacy" | "serve --zone")
+        "select --not-message" | "count --by" | "count --top" | "read --from" | "read --to" | "send --host" | \
+        "send --app" | "send --proc" | "send --msgid" | "send --micros" | "collect --legacy" | "collect --zone" | \
+        "serve --udp" | "serve --counted" | "serve --lf" | "serve --connections" | "serve --per-peer" | \
+        "serve --idle" | "serve --commit" | "serve --checkpoint" | "serve --legacy" | "serve --zone")
             echo "text"
             ;;
         "show --dialect" | "check --dialect" | "convert --dialect" | "archive --dialect" | "collect --dialect" | \
@@ -90,7 +93,7 @@ _syslogbox_value() {
 # What a command's value by its place is.
 _syslogbox_place() {
     case "$1 $2" in
-        "merge "* | "migrate "* | "union "* | "common "* | "minus "* | "diff "*)
+        "merge "* | "migrate "* | "union "* | "common "* | "minus "* | "diff "* | "prove "* | "confirm 3")
             echo "file"
             ;;
         "read "* | "verify "* | "compact "* | "serve "*)
@@ -104,7 +107,7 @@ _syslogbox_place() {
 
 _syslogbox() {
     local command=${COMP_WORDS[1]} word=$2 previous=$3 kind="" action="" words=""
-    local commands="show check convert archive merge migrate union common minus diff select digest root read verify compact send collect serve help"
+    local commands="show check convert archive merge migrate union common minus diff select digest count root prove confirm read verify compact send collect serve help"
     if [ "$COMP_CWORD" -eq 1 ]; then
         words="$commands --help --version"
     elif [ "$command" = help ]; then

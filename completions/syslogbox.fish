@@ -17,7 +17,10 @@ complete -c syslogbox -n __fish_use_subcommand -a minus -d 'Write the archive of
 complete -c syslogbox -n __fish_use_subcommand -a diff -d 'Write a line for each record that only one of two archives has'
 complete -c syslogbox -n __fish_use_subcommand -a select -d 'Write the archive of the records of an archive that meet all conditions'
 complete -c syslogbox -n __fish_use_subcommand -a digest -d 'Write a line for each period of an archive: its records, octets and SHA-256'
+complete -c syslogbox -n __fish_use_subcommand -a count -d 'Write how many records of an archive have each value of some fields or times'
 complete -c syslogbox -n __fish_use_subcommand -a root -d 'Write how many records an archive has, and their Merkle tree hash (RFC 9162)'
+complete -c syslogbox -n __fish_use_subcommand -a prove -d 'Write proofs that an archive has each of some records, or that it has not'
+complete -c syslogbox -n __fish_use_subcommand -a confirm -d 'Say what proofs show of some records, without their archive'
 complete -c syslogbox -n __fish_use_subcommand -a read -d 'Write the archive of the records that a store holds'
 complete -c syslogbox -n __fish_use_subcommand -a verify -d 'Read a whole store and write a line for each damaged file'
 complete -c syslogbox -n __fish_use_subcommand -a compact -d 'Join the segments of each day of a store that has more than eight'
@@ -57,6 +60,11 @@ complete -c syslogbox -n "__fish_seen_subcommand_from select" -l not-host -x -d 
 complete -c syslogbox -n "__fish_seen_subcommand_from select" -l not-app -x -d 'Records without this APP-NAME, or any of several'
 complete -c syslogbox -n "__fish_seen_subcommand_from select" -l not-message -x -d 'Records whose message does not contain this text, or any of several'
 complete -c syslogbox -n "__fish_seen_subcommand_from digest" -l by -x -a 'month day hour' -d 'Length of the periods'
+complete -c syslogbox -n "__fish_seen_subcommand_from count" -l by -x -d 'Count by these, with commas between them'
+complete -c syslogbox -n "__fish_seen_subcommand_from count" -l top -x -d 'Write the first so many lines alone'
+complete -c syslogbox -n "__fish_seen_subcommand_from count" -l json -d 'Write each line as JSON'
+complete -c syslogbox -n "__fish_seen_subcommand_from count" -l bars -d 'Draw bars in the width of the terminal'
+complete -c syslogbox -n "__fish_seen_subcommand_from prove confirm" -F
 complete -c syslogbox -n "__fish_seen_subcommand_from read verify compact" -a '(__fish_complete_directories)'
 complete -c syslogbox -n "__fish_seen_subcommand_from send" -l facility -x -a 'kern user mail daemon auth syslog lpr news uucp cron authpriv ftp ntp audit alert clock local0 local1 local2 local3 local4 local5 local6 local7' -d 'Facility'
 complete -c syslogbox -n "__fish_seen_subcommand_from send" -l severity -x -a 'emerg alert crit err warning notice info debug' -d 'Severity'
@@ -80,4 +88,4 @@ complete -c syslogbox -n "__fish_seen_subcommand_from serve" -l idle -x -d 'Seco
 complete -c syslogbox -n "__fish_seen_subcommand_from serve" -l commit -x -d 'Milliseconds within which a record is committed'
 complete -c syslogbox -n "__fish_seen_subcommand_from serve" -l checkpoint -x -d 'MiB that a journal may reach before a checkpoint'
 complete -c syslogbox -n "__fish_seen_subcommand_from serve" -l until-eof -d 'End when standard input ends'
-complete -c syslogbox -n "__fish_seen_subcommand_from help" -a "show check convert archive merge migrate union common minus diff select digest root read verify compact send collect serve"
+complete -c syslogbox -n "__fish_seen_subcommand_from help" -a "show check convert archive merge migrate union common minus diff select digest count root prove confirm read verify compact send collect serve"

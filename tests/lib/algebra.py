@@ -141,6 +141,56 @@ def digest(text, by="day"):
     return (1, lines, f"{fault}\n".encode()) if fault else (0, lines + digest_line("total", records), b"")
 
 
+# ---------------------------------------------------------------- counts
+
+KEYS = ["host", "app", "proc", "msgid", "facility", "severity", "day", "hour", "minute"]
+TIME_LENGTHS = {"day": 10, "hour": 13, "minute": 16}
+
+
+def key_of(record, key):
+    """The text of a key of a record."""
+    if key in TIME_LENGTHS:
+        return b"undated" if record.micros is None else timestamp(record.micros)[:TIME_LENGTHS[key]]
+    if key == "facility":
+        return FACILITIES[record.priority // 8].encode()
+    if key == "severity":
+        return SEVERITIES[record.priority % 8].encode()
+    return record.words[KEYS.index(key)]
+
+
+def count_rows(records, keys):
+    """Of each key its records' number, octets, first and last time, and texts: the most first, then by their texts."""
+    table = {}
+    for one in records:
+        record = read(one)
+        table.setdefault(tuple(key_of(record, key) for key in keys), []).append((one, record.micros))
+    if not keys:
+        table.setdefault((), [])
+    rows = []
+    for texts, entries in table.items():
+        times = [micros for _, micros in entries if micros is not None]
+        first, last = (timestamp(pick(times)) if times else b"-" for pick in (min, max))
+        rows.append((len(entries), len(archive_text(one for one, _ in entries)), first, last, texts))
+    return sorted(rows, key=lambda row: (-row[0], row[4]))
+
+
+def count_json(row, keys):
+    number, octets, first, last, texts = row
+    pairs = [("count", str(number)), ("octets", str(octets)), ("first", word_json(first)), ("last", word_json(last))]
+    pairs += [(key, word_json(text)) for key, text in zip(keys, texts)]
+    return "{" + ",".join(f'"{name}":{value}' for name, value in pairs) + "}"
+
+
+def count(text, keys=(), top=None, json_lines=False):
+    records, fault = archive_read(text)
+    if fault:
+        return 1, b"", f"{fault}\n".encode()
+    rows = count_rows(records, keys)[:top]
+    if json_lines:
+        return 0, b"".join(count_json(row, keys).encode() + b"\n" for row in rows), b""
+    return 0, b"".join(b" ".join([b"%d %d" % row[:2], *row[2:4], *row[4]]) + b"\n" for row in rows), b""
+
+
 # ---------------------------------------------------------------- JSON
 
 ESCAPES = {'"': '\\"', "\\": "\\\\", "\b": "\\b", "\t": "\\t", "\n": "\\n", "\f": "\\f", "\r": "\\r"}

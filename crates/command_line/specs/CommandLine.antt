@@ -88,6 +88,22 @@ with_time_rules a =
 abbrev pub digest_app : App
 digest_app = with_rule (new_app (codes "digest")) (default_rule (codes "by") (codes "day"))
 
+-- the command that counts the records of an archive
+abbrev pub count_app : App
+count_app =
+    with_rule (with_rule (with_rule (with_rule (new_app (codes "count")) (option_rule (codes "by")))
+    (option_rule (codes "top"))) (flag_rule (codes "json"))) (flag_rule (codes "bars"))
+
+-- the command that proves what an archive has
+abbrev pub prove_app : App
+prove_app = with_rule (new_app (codes "prove")) (required_rule (codes "RECORDS"))
+
+-- the command that says what proofs show
+abbrev pub confirm_app : App
+confirm_app =
+    with_rule (with_rule (with_rule (new_app (codes "confirm")) (required_rule (codes "COUNT")))
+    (required_rule (codes "ROOT"))) (required_rule (codes "RECORDS"))
+
 -- the options of `send` that have a default value
 abbrev pub with_send_defaults : App → App
 with_send_defaults a =
@@ -208,10 +224,16 @@ abbrev pub with_set_commands : App → App
 with_set_commands a =
     with_subcommand (with_part_commands (with_subcommand a union_app.top)) (two_files_app (codes "diff")).top
 
+-- the commands on proofs
+abbrev pub with_proof_commands : App → App
+with_proof_commands a =
+    with_subcommand (with_subcommand (with_subcommand a (new_app (codes "root")).top) prove_app.top) confirm_app.top
+
 -- the commands that read an archive as it comes
 abbrev pub with_stream_commands : App → App
 with_stream_commands a =
-    with_subcommand (with_subcommand (with_subcommand a select_app.top) digest_app.top) (new_app (codes "root")).top
+    with_proof_commands (with_subcommand (with_subcommand (with_subcommand a select_app.top) digest_app.top)
+    count_app.top)
 
 -- all commands of archives
 abbrev pub with_archives : App → App

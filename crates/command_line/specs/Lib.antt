@@ -1,4 +1,6 @@
 pub mod CommandLine
+pub mod Counts
+pub mod Heads
 pub mod Names
 pub mod Ranges
 pub mod Requests

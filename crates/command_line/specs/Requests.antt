@@ -12,13 +12,18 @@ use Rattle.syslog_legacy.specs.declared.frame_reading.FrameReading.{FrameReading
 use Rattle.collect_engine.specs.declared.collect_words.CollectWords.{CollectWords}
 use Rattle.collect_engine.specs.declared.collect_words.Transport.{Transport}
 use Rattle.collect_engine.specs.declared.collect_words.Transport.TheVariants as transport
+use Rattle.archive_counts.specs.declared.options.CountForm.{CountForm}
+use Rattle.archive_counts.specs.declared.options.CountKey.{CountKey}
+use Rattle.archive_tree.specs.declared.head.TreeHead.{TreeHead}
 use Rattle.command_line.specs.CommandLine.{line_app}
+use Rattle.command_line.specs.Counts.{form_by, keys_in}
+use Rattle.command_line.specs.Heads.{hash_in}
 use Rattle.command_line.specs.Names.{period_of}
 use Rattle.command_line.specs.Ranges.{range_in}
 use Rattle.condition_words.specs.Conditions.{ConditionsAsked, conditions_asked, conditions_in}
-use Rattle.option_values.specs.Numbers.{number_in}
+use Rattle.option_values.specs.Numbers.{number_in, size_in}
 use Rattle.option_values.specs.Readings.{reading_in}
-use Rattle.option_values.specs.Values.{is_given_in}
+use Rattle.option_values.specs.Values.{is_given_in, optional}
 use Rattle.archive_sets.specs.declared.range.InRange.{InRange}
 use Rattle.archive_digest.specs.declared.period.Period.{Period}
 use Rattle.server_words.specs.Serves.{ServeAsked, serve_asked, serve_in}
@@ -53,7 +58,12 @@ pub data Asked : Type 0 where
   Diff : Text → Text → Asked
   Select : ConditionsAsked → Asked
   Digest : Period → Asked
+  -- by these keys, so many lines at most, in this form
+  Count : List CountKey → Option ℕ → CountForm → Asked
   Root : Asked
+  -- with the file of records
+  Prove : Text → Asked
+  Confirm : TreeHead → Text → Asked
   Send : OptionTexts → Asked
   Collect : CollectWords → Asked
   -- folders
@@ -89,7 +99,10 @@ asked_by (request.SpillArchive input_framing way dir memory) = SpillArchive way 
 asked_by (request.Files r) = files_asked r
 asked_by (request.Select conditions) = Select (conditions_asked conditions)
 asked_by (request.Digest period) = Digest period
+asked_by (request.Count options) = Count options.keys.items options.top options.form
 asked_by request.Root = Root
+asked_by (request.Prove records) = Prove records.now
+asked_by (request.Confirm head records) = Confirm head records.now
 asked_by (request.Send options) = Send (texts_of options)
 asked_by (request.Collect words) = Collect words
 asked_by (request.Read dir range) = Read dir.now range
@@ -194,6 +207,33 @@ abbrev pub read_digest : List Row → Option Asked
 read_digest rows =
     option_map (λ period. Digest period) (option_and_then period_of (first_of (codes "by") rows))
 
+-- `count` by these keys, with the values of its other options
+abbrev pub count_of : List CountKey → List Row → Option Asked
+count_of keys rows =
+    option_and_then (λ top. option_map (λ form. Count keys top form)
+    (form_by (is_given_in (codes "json") rows) (is_given_in (codes "bars") rows)))
+    (optional (number_in 1 4_294_967_295) (first_of (codes "top") rows))
+
+-- `count` with the values of its options
+abbrev pub read_count : List Row → Option Asked
+read_count rows = option_and_then (λ keys. count_of keys rows) (keys_in rows)
+
+-- `prove` with its file
+abbrev pub read_prove : List Row → Option Asked
+read_prove rows = option_map (λ records. Prove records) (first_of (codes "RECORDS") rows)
+
+-- the head by COUNT and ROOT
+abbrev pub head_in : List Row → Option TreeHead
+head_in rows =
+    option_and_then (λ size. option_map (λ hash. record { size = size; hash = hash })
+    (option_and_then hash_in (first_of (codes "ROOT") rows))) (option_and_then size_in (first_of (codes "COUNT") rows))
+
+-- `confirm` with its values
+abbrev pub read_confirm : List Row → Option Asked
+read_confirm rows =
+    option_and_then (λ head. option_map (λ records. Confirm head records) (first_of (codes "RECORDS") rows))
+    (head_in rows)
+
 -- `send` with the texts of its options
 abbrev pub read_send : List Row → Option Asked
 read_send rows =
@@ -266,7 +306,9 @@ abbrev pub read_further : Text → List Row → Option Asked
 read_further name rows =
     if bytes_eq name (codes "digest") then read_digest rows
     else (if bytes_eq name (codes "root") then Some Root
-    else (if bytes_eq name (codes "send") then read_send rows else read_store name rows))
+    else (if bytes_eq name (codes "prove") then read_prove rows
+    else (if bytes_eq name (codes "confirm") then read_confirm rows
+    else (if bytes_eq name (codes "send") then read_send rows else read_store name rows))))
 
 -- the request of a subcommand on the archives of two files, of `migrate`, or of another that is no subcommand on frames
 unfoldable pub read_files : Text → List Row → Option Asked
@@ -291,7 +333,8 @@ read_of (name, rows) =
     if bytes_eq name (codes "collect") then option_map (λ words. Collect words) (read_collect rows)
     else (if bytes_eq name (codes "union") then read_union rows
     else (if bytes_eq name (codes "select") then read_select rows
-    else (if bytes_eq name (codes "serve") then read_serve rows else read_other name rows)))
+    else (if bytes_eq name (codes "count") then read_count rows
+    else (if bytes_eq name (codes "serve") then read_serve rows else read_other name rows))))
 
 -- the subcommand with the values of its options, where the parse has no fault
 abbrev pub rows_where : Kinds → Option (Text × List Row) → Option (Text × List Row)

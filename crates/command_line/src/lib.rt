@@ -3,10 +3,12 @@
 #![tactic(auto)]
 
 mod collecting;
+mod count_words;
 mod digest_words;
 mod file_words;
 mod frame_words;
 mod line;
+mod proof_words;
 mod request;
 mod select_words;
 mod send_words;

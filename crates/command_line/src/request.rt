@@ -1,7 +1,9 @@
 //! The request that a command line makes.
 
+use archive_counts::CountOptions;
 use archive_digest::Period;
 use archive_sets::{Conditions, InRange};
+use archive_tree::TreeHead;
 use collect_engine::CollectWords;
 use frame_engine::InputFraming;
 use send_engine::SendOptions;
@@ -75,8 +77,21 @@ pub enum Request<'a> {
     Digest {
         period: Period,
     },
+    /// `count`: how many records of an archive have each value of some fields or times.
+    Count {
+        options: CountOptions,
+    },
     /// `root`: how many records an archive has, and their Merkle tree hash.
     Root,
+    /// `prove`: proofs that an archive has each of the records of a file, or that it has not.
+    Prove {
+        records: &'a str,
+    },
+    /// `confirm`: what proofs show of the records of a file and the archive with this head.
+    Confirm {
+        head: TreeHead,
+        records: &'a str,
+    },
     /// `send`: one record, as a frame.
     Send {
         options: SendOptions<'a>,

@@ -7,6 +7,7 @@ ghost use Rattle.command_line.specs.Requests.{Collect, IsUsage, asked_by, parsed
 ghost use Rattle.command_line.specs.Requests.{read_files, read_other};
 
 use crate::collecting::read_collect_words;
+use crate::count_words::read_count_words;
 use crate::digest_words::read_digest_words;
 use crate::file_words::{
     read_common_words, read_diff_words, read_merge_words, read_migrate_words, read_minus_words,
@@ -16,6 +17,7 @@ use crate::frame_words::{
     read_archive_words, read_check_words, read_convert_words, read_show_words,
 };
 use crate::line::whole_line;
+use crate::proof_words::{read_confirm_words, read_prove_words};
 use crate::request::Request;
 use crate::select_words::read_select_words;
 use crate::send_words::read_send_words;
@@ -65,6 +67,8 @@ fn read_further_words<'a>(name: &str, matches: &ArgMatches<'a>) -> Result<Reques
     match name {
         "digest" => read_digest_words(matches),
         "root" => Ok(Request::Root),
+        "prove" => read_prove_words(matches),
+        "confirm" => read_confirm_words(matches),
         "send" => read_send_words(matches),
         _ => read_store_words(name, matches),
     }
@@ -117,6 +121,7 @@ fn asked_for<'a>(
         "collect" => Ok(read_collect_request(inner)),
         "union" => read_union_words(alloc, inner),
         "select" => read_select_words(alloc, inner),
+        "count" => read_count_words(alloc, inner),
         "serve" => read_serve_request(alloc, inner),
         _ => Ok(read_other_words(name, inner)),
     }

@@ -26,8 +26,9 @@ use Rattle.frame_engine.proofs.SessionLemmas.{handler_laws, nothing_goes_on, not
 use Rattle.archive_engine.specs.Archived.{archive_handling, archive_meaning}
 use Rattle.archive_engine.proofs.ArchiveLemmas.{archive_laws}
 use Rattle.archive_sets.specs.declared.fault.SelectFault.TheVariants.{Memory as select_Memory}
-use Rattle.command_line.specs.Requests.{Archive, Asked, Check, Collect, Common, Compact, Convert, Diff, Digest, Merge}
-use Rattle.command_line.specs.Requests.{Migrate, Minus, Read, Root, Select, Send, Serve, Show, SpillArchive, Union, Verify}
+use Rattle.command_line.specs.Requests.{Archive, Asked, Check, Collect, Common, Compact, Confirm, Convert, Count, Diff}
+use Rattle.command_line.specs.Requests.{Digest, Merge, Migrate, Minus, Prove, Read, Root, Select, Send, Serve, Show}
+use Rattle.command_line.specs.Requests.{SpillArchive, Union, Verify}
 use Rattle.command_line.specs.Requests.{IsUsage, frames_asked, frames_by}
 use Rattle.command_line.specs.declared.request.FrameCommand.{FrameCommand}
 use Rattle.command_line.specs.declared.request.FrameCommand.TheVariants as frames
@@ -139,6 +140,9 @@ unstarted_as (Digest period) stored old d status t = record {
   failures = record { reader = refl; writer = refl };
   memory = λ _. (refl, refl);
 }
+unstarted_as (Count keys top form) stored old d status t = inl (refl, (refl, t))
+unstarted_as (Prove records) stored old d status t = inl (refl, (refl, t))
+unstarted_as (Confirm head records) stored old d status t = inl (refl, (refl, t))
 unstarted_as Root stored old d status t = record {
   ending = Some select_Memory;
   outcome = (tt, inl t);

@@ -1,5 +1,6 @@
 pub mod Files
 pub mod Memory
 pub mod Stored
+pub mod Proved
 pub mod JoinedFiles
 pub mod Runs

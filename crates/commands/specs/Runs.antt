@@ -19,16 +19,22 @@ use Rattle.archive_engine.specs.Migrated.{RanMigrate}
 use Rattle.archive_sets.specs.Together.{MeetsAll}
 use Rattle.archive_sets.specs.declared.conditions.Conditions.{Conditions}
 use Rattle.condition_words.specs.Conditions.{ConditionsAsked, conditions_asked}
-use Rattle.command_line.specs.Requests.{Archive, Asked, Check, Collect, Common, Compact, Convert, Diff, Digest, Merge}
-use Rattle.command_line.specs.Requests.{Migrate, Minus, Read, Root, Select, Send, Serve, Show, SpillArchive, Union, Verify}
+use Rattle.command_line.specs.Requests.{Archive, Asked, Check, Collect, Common, Compact, Confirm, Convert, Count, Diff}
+use Rattle.command_line.specs.Requests.{Digest, Merge, Migrate, Minus, Prove, Read, Root, Select, Send, Serve, Show}
+use Rattle.command_line.specs.Requests.{SpillArchive, Union, Verify}
 use Rattle.command_line.specs.declared.words.WordsFault.{WordsFault}
 use Rattle.command_line.specs.declared.words.WordsFault.TheVariants.{Usage, Memory as OutOfMemory}
 use Rattle.send_engine.specs.Sending.{RanSend}
 use Rattle.proof_engine.specs.Rooted.{RanRoot}
+use Rattle.archive_counts.specs.declared.options.CountForm.{CountForm}
+use Rattle.archive_counts.specs.declared.options.CountKey.{CountKey}
+use Rattle.archive_counts.specs.declared.options.CountOptions.{CountOptions}
+use Rattle.set_engine.specs.Counting.{RanCount}
 use Rattle.set_engine.specs.Digesting.{RanDigest}
 use Rattle.set_engine.specs.Selecting.{RanSelect}
 use Rattle.set_engine.specs.declared.combination.Combination.TheVariants as combination
 use Rattle.commands.specs.JoinedFiles.{RanJoinFiles}
+use Rattle.commands.specs.Proved.{RanConfirmFile, RanProveFile}
 use Rattle.commands.specs.Stored.{LacksFile, Opens, RanOut, Stored}
 
 -- a command on the standard input; whatever the status, a prefix of the right output was written
@@ -74,6 +80,13 @@ RanSelectBy asked old new status =
     ⊎ ((conditions : Conditions) × (conditions_asked conditions ≡ asked)
     × RanSelect (MeetsAll conditions) old new status)
 
+-- what is counted of the archive on the input
+abbrev pub RanCountBy : List CountKey → Option ℕ → CountForm → Devices → Devices → ℕ → Type 0
+RanCountBy keys top form old new status =
+    ((new.input ≡ old.input) × RanOut old.output new.output old.diagnostics new.diagnostics status)
+    ⊎ ((options : CountOptions) × (options.keys.items ≡ keys) × (options.top ≡ top) × (options.form ≡ form)
+    × RanCount options old new status)
+
 -- so of each command
 abbrev pub RanAs : Asked → Stored → Devices → Devices → ℕ → Type 0
 RanAs (Check way framing summary) stored old new status =
@@ -95,7 +108,10 @@ RanAs (Diff left right) stored old new status =
     RanJoinFiles combination.Diff stored (left ∷ right ∷ []) old.output new.output old.diagnostics new.diagnostics status
 RanAs (Select asked) stored old new status = RanSelectBy asked old new status
 RanAs (Digest period) stored old new status = RanDigest period old new status
+RanAs (Count keys top form) stored old new status = RanCountBy keys top form old new status
 RanAs Root stored old new status = RanRoot old new status
+RanAs (Prove records) stored old new status = RanProveFile stored records old new status
+RanAs (Confirm head records) stored old new status = RanConfirmFile head stored records old new status
 RanAs (Migrate file) stored old new status =
     RanMigrateFile stored file old.output new.output old.diagnostics new.diagnostics status
 RanAs (Send texts) stored old new status =
@@ -126,7 +142,10 @@ ReadsInput (Minus left right) = ⊥
 ReadsInput (Diff left right) = ⊥
 ReadsInput (Select conditions) = Unit {0}
 ReadsInput (Digest period) = Unit {0}
+ReadsInput (Count keys top form) = Unit {0}
 ReadsInput Root = Unit {0}
+ReadsInput (Prove records) = Unit {0}
+ReadsInput (Confirm head records) = Unit {0}
 ReadsInput (Migrate file) = ⊥
 ReadsInput (Send texts) = ⊥
 ReadsInput (SpillArchive way framing dir memory) = ⊥

@@ -7,6 +7,7 @@
 mod files;
 mod joining;
 mod memory;
+mod proving;
 mod running;
 
 pub use files::Files;

@@ -16,6 +16,7 @@ ghost use Rattle.commands.specs.Stored.{Stored};
 
 use crate::files::Files;
 use crate::joining::join_files;
+use crate::proving::{confirm_file, prove_file};
 use archive_engine::{archive_input, merge_archives, migrate_archive};
 use command_line::{FileRequest, FrameCommand, FrameRequest, Request, WordsFault, read_words};
 use driver::{FAULT, NO_MEMORY, report};
@@ -23,7 +24,7 @@ use frame_engine::{Check, CheckSummary, Convert, InputFraming, Show, ShowJson, T
 use octet_devices::{Input, Output};
 use proof_engine::root_archive;
 use send_engine::send_text;
-use set_engine::{Combination, digest_archive, select_archive};
+use set_engine::{Combination, count_archive, digest_archive, select_archive};
 use std::alloc::Global;
 use syslog_legacy::FrameReading;
 
@@ -233,7 +234,14 @@ pub fn run_request<R: Input, W: Output, N: Output, F: Files>(
             select_archive(alloc, &conditions, input, output, diagnostics)
         }
         Request::Digest { period } => digest_archive(alloc, period, input, output, diagnostics),
+        Request::Count { options } => count_archive(alloc, &options, input, output, diagnostics),
         Request::Root => root_archive(alloc, input, output, diagnostics),
+        Request::Prove { records } => {
+            prove_file(alloc, records, input, output, diagnostics, files)
+        }
+        Request::Confirm { head, records } => {
+            confirm_file(alloc, &head, records, input, output, diagnostics, files)
+        }
         Request::Send { options } => send_text(alloc, &options, output, diagnostics),
         // only `main` has these
         Request::SpillArchive { .. } => report(diagnostics, b"spill fault\n", FAULT),

@@ -8,8 +8,16 @@ ghost use Rattle.condition_words.specs.Conditions.{times_by, times_in};
 use archive_sets::{InRange, Times};
 use clap::ArgMatches;
 use option_values::options::{FROM, ONLY_UNDATED, UNDATED, UNTIL};
-use option_values::{Refusal, is_given, optional_instant};
+use option_values::{OptionRow, Refusal, is_given, optional_instant};
 use syslog_value::Instant;
+
+// `--only-undated` was given beside a bound.
+fn excludes(bound: OptionRow) -> Refusal<'static> {
+    Refusal::Excluded {
+        option: ONLY_UNDATED,
+        other: bound,
+    }
+}
 
 // The times by their bounds and the two flags.
 fn times_by(
@@ -25,8 +33,8 @@ fn times_by(
     }
     match (from, to) {
         (None, None) => Ok(Times::Undated),
-        (Some(_), _) => Err(Refusal::Excluded(FROM)),
-        (None, Some(_)) => Err(Refusal::Excluded(UNTIL)),
+        (Some(_), _) => Err(excludes(FROM)),
+        (None, Some(_)) => Err(excludes(UNTIL)),
     }
 }
 

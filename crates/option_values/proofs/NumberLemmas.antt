@@ -36,19 +36,20 @@ number_no first last text never =
     never digits (omega (arith, z)) (leb-true _ _ low) (leb-true _ _ high)))
 
 -- the texts that `parse` reads, but for those with a plus sign
-pub parsed_number : (text : List ℕ) (n : ℕ)
-    → (IsNumeral 10 (without_leading_plus text) × (digits_value 10 (without_leading_plus text) < 2 ^ 32))
+pub parsed_number : (bits : ℕ) (text : List ℕ) (n : ℕ)
+    → (IsNumeral 10 (without_leading_plus text) × (digits_value 10 (without_leading_plus text) < 2 ^ bits))
     × (n ≡ digits_value 10 (without_leading_plus text))
     → get_or text 0 0 ≢ 43 → (all_ascii_digits text ≡ true) × (0 < length text) × (n ≡ digits_value 10 text)
-parsed_number text n h plus =
+parsed_number bits text n h plus =
     let e : without_leading_plus text ≡ text = without_leading_plus_none text plus in
     let k = rw e at h in (own.from text k.0.0.1, k.0.0.0, k.1)
 
-pub unparsed_number : {E : Type 0} (first last : ℕ) (text : List ℕ) (e : E) → ParsesUnsigned 32 10 text (Err e)
-    → get_or text 0 0 ≢ 43 → last < 2 ^ 32 → None ≡ number_in first last text
-unparsed_number first last text e h plus few =
+pub unparsed_number : {E : Type 0} (bits first last : ℕ) (text : List ℕ) (e : E)
+    → ParsesUnsigned bits 10 text (Err e)
+    → get_or text 0 0 ≢ 43 → last < 2 ^ bits → None ≡ number_in first last text
+unparsed_number bits first last text e h plus few =
     number_no first last text
-    (λ digits some low high. parse_plain own 32 text (Err e) h plus (digits, some, omega (arith, few, high)))
+    (λ digits some low high. parse_plain own bits text (Err e) h plus (digits, some, omega (arith, few, high)))
 
 pub number_small : (first last : ℕ) (text : List ℕ) → IfSome (number_in first last text) (λ n. n ≤ last)
 number_small first last text =

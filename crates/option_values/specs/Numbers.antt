@@ -16,6 +16,10 @@ number_in first last text =
     let n = digits_value 10 text in
     if is_numeral text && (nat_le first n && nat_le n last) then Some n else None
 
+-- the number of 64 bits that it writes
+abbrev pub size_in : Text → Option ℕ
+size_in text = number_in 0 18_446_744_073_709_551_615 text
+
 -- the number that the text writes, in the range of a kind
 abbrev pub number_by : Kind → Text → Option ℕ
 number_by (kind.Number first last) text = number_in first last text

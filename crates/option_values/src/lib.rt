@@ -13,7 +13,7 @@ mod reading_values;
 mod time_values;
 
 pub use given::{is_given, needed, value, values};
-pub use numbers::{number, number_within, optional_number};
+pub use numbers::{number, number_within, optional_number, size};
 pub use option_row::{
     CommandRow, FILES_MAX, Form, Kind, OptionRow, PATTERN_MAX, Refusal, refusal_text,
 };

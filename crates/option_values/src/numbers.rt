@@ -4,7 +4,7 @@ ghost use Rattle.std.specs.Prelude.{◌≡◌, [], ◌∷◌, option_and_then};
 ghost use Rattle.std.specs.Result.{result_ok};
 ghost use Rattle.clap.specs.Walk.{first_of};
 ghost use Rattle.clap.specs.Words.{found_of, rows_of};
-ghost use Rattle.option_values.specs.Numbers.{number_by, number_in};
+ghost use Rattle.option_values.specs.Numbers.{number_by, number_in, size_in};
 ghost use Rattle.option_values.specs.Values.{optional};
 
 use crate::given::{needed, value};
@@ -72,6 +72,31 @@ pub fn optional_number<'a>(
     };
     match number_by(option.kind, text) {
         Some(number) => Ok(Some(number)),
+        None => Err(option.refuses(option.kind, text)),
+    }
+}
+
+// The number of 64 bits that the text spells in decimal digits alone; None if it spells none.
+fn size_of(text: &str) -> Option<u64>
+    ensures { result ≡ size_in text.now }
+{
+    if text.starts_with('+') {
+        return None;
+    }
+    match text.parse::<u64>() {
+        Ok(number) => Some(number),
+        Err(_) => None,
+    }
+}
+
+/// The number of 64 bits that the value of an option is.
+pub fn size<'a>(matches: &ArgMatches<'a>, option: &OptionRow) -> Result<u64, Refusal<'a>>
+    ensures { result_ok result
+        ≡ option_and_then size_in (first_of option.now.name.now (rows_of (found_of matches.now))) }
+{
+    let text = needed(matches, option)?;
+    match size_of(text) {
+        Some(number) => Ok(number),
         None => Err(option.refuses(option.kind, text)),
     }
 }

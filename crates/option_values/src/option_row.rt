@@ -38,6 +38,12 @@ pub enum Kind {
     Number(u32, u32),
     /// A year, from the first to the last.
     Year(u32, u32),
+    /// How many records an archive has: a number of 64 bits.
+    Size,
+    /// A SHA-256 in hexadecimal digits.
+    Hash,
+    /// Names of keys, with commas between them.
+    Keys,
     /// An offset from UTC.
     Zone,
     /// A time of RFC 5424, or one of UTC without its zone, seconds or time of day.
@@ -100,8 +106,13 @@ pub enum Refusal<'a> {
     Missing,
     /// No option of `serve` names a listener.
     NoListener,
-    /// `--only-undated` was given beside this option.
-    Excluded(OptionRow),
+    /// An option was given beside another that excludes it.
+    Excluded {
+        /// The option.
+        option: OptionRow,
+        /// The other one.
+        other: OptionRow,
+    },
     /// The number of an option is greater than that of another.
     Above {
         /// The option.
@@ -130,6 +141,13 @@ fn expected(alloc: Global, kind: Kind) -> Result<String, AllocError> {
         Kind::Folder => String::from_str(alloc, "the name of a folder"),
         Kind::Number(first, last) => format!(in alloc; "a number from {first} to {last}"),
         Kind::Year(first, last) => format!(in alloc; "a year from {first} to {last}"),
+        Kind::Size => String::from_str(alloc, "a number from 0 to 18446744073709551615"),
+        Kind::Hash => String::from_str(alloc, "64 hexadecimal digits"),
+        Kind::Keys => String::from_str(
+            alloc,
+            "one or more of host, app, proc, msgid, facility, severity, day, hour and minute, \
+             with commas between them",
+        ),
         Kind::Zone => String::from_str(
             alloc,
             "E or W, then hours and minutes in two digits each, such as E0130",
@@ -187,8 +205,10 @@ pub fn refusal_text(alloc: Global, refusal: Refusal<'_>) -> Result<String, Alloc
             alloc,
             "error: serve needs a listener: --udp, --counted, --lf, --unix or --inherited\n",
         ),
-        Refusal::Excluded(OptionRow { name, .. }) => {
-            format!(in alloc; "error: --only-undated cannot be used with --{name}\n")
+        Refusal::Excluded { option, other } => {
+            let name = option.name;
+            let other = other.name;
+            format!(in alloc; "error: --{name} cannot be used with --{other}\n")
         }
         Refusal::Above { option, bound } => {
             let name = option.name;

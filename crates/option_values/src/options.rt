@@ -147,6 +147,69 @@ pub const PERIOD: OptionRow = OptionRow {
     help: "Length of the periods: month, day or hour",
 };
 
+/// `--by` of `count`.
+pub const KEYS: OptionRow = OptionRow {
+    name: "by",
+    form: Form::Single,
+    value: "keys",
+    kind: Kind::Keys,
+    help: "Count by these, with commas between them: host, app, proc, msgid, facility, severity, day, hour or minute",
+};
+
+/// `--top` of `count`.
+pub const TOP: OptionRow = OptionRow {
+    name: "top",
+    form: Form::Single,
+    value: "n",
+    kind: Kind::Number(1, 4_294_967_295),
+    help: "Write the first so many lines alone: 1 to 4294967295",
+};
+
+/// `--json` of `count`.
+pub const COUNTS_JSON: OptionRow = OptionRow {
+    name: "json",
+    form: Form::Flag,
+    value: "",
+    kind: Kind::Text,
+    help: "Write each line as JSON",
+};
+
+/// `--bars` of `count`.
+pub const BARS: OptionRow = OptionRow {
+    name: "bars",
+    form: Form::Flag,
+    value: "",
+    kind: Kind::Text,
+    help: "Draw bars in the width of the terminal (COLUMNS, or 80)",
+};
+
+/// `COUNT` of `confirm`.
+pub const HEAD_SIZE: OptionRow = OptionRow {
+    name: "COUNT",
+    form: Form::Positional,
+    value: "count",
+    kind: Kind::Size,
+    help: "How many records the archive has, as root prints it",
+};
+
+/// `ROOT` of `confirm`.
+pub const HEAD_HASH: OptionRow = OptionRow {
+    name: "ROOT",
+    form: Form::Positional,
+    value: "root",
+    kind: Kind::Hash,
+    help: "Their Merkle tree hash, as root prints it",
+};
+
+/// `RECORDS` of `prove` and `confirm`.
+pub const RECORDS: OptionRow = OptionRow {
+    name: "RECORDS",
+    form: Form::Positional,
+    value: "records",
+    kind: Kind::File,
+    help: "File of records, as counted frames",
+};
+
 // ---- Conditions on records.
 
 /// `--from` of select and read.
@@ -646,11 +709,32 @@ pub const DIGEST_COMMAND: CommandRow = CommandRow {
     options: &[PERIOD],
 };
 
+/// `count`.
+pub const COUNT_COMMAND: CommandRow = CommandRow {
+    name: "count",
+    about: "Write how many records of an archive have each value of some fields or times",
+    options: &[KEYS, TOP, COUNTS_JSON, BARS],
+};
+
 /// `root`.
 pub const ROOT_COMMAND: CommandRow = CommandRow {
     name: "root",
     about: "Write how many records an archive has, and their Merkle tree hash (RFC 9162)",
     options: &[],
+};
+
+/// `prove`.
+pub const PROVE_COMMAND: CommandRow = CommandRow {
+    name: "prove",
+    about: "Write proofs that an archive has each of some records, or that it has not",
+    options: &[RECORDS],
+};
+
+/// `confirm`.
+pub const CONFIRM_COMMAND: CommandRow = CommandRow {
+    name: "confirm",
+    about: "Say what proofs show of some records, without their archive",
+    options: &[HEAD_SIZE, HEAD_HASH, RECORDS],
 };
 
 /// `read`.
@@ -724,7 +808,7 @@ pub const SERVE_COMMAND: CommandRow = CommandRow {
 };
 
 /// The commands, in the order of the help.
-pub const COMMANDS: [CommandRow; 19] = [
+pub const COMMANDS: [CommandRow; 22] = [
     SHOW_COMMAND,
     CHECK_COMMAND,
     CONVERT_COMMAND,
@@ -737,7 +821,10 @@ pub const COMMANDS: [CommandRow; 19] = [
     DIFF_COMMAND,
     SELECT_COMMAND,
     DIGEST_COMMAND,
+    COUNT_COMMAND,
     ROOT_COMMAND,
+    PROVE_COMMAND,
+    CONFIRM_COMMAND,
     READ_COMMAND,
     VERIFY_COMMAND,
     COMPACT_COMMAND,

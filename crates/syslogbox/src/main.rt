@@ -2,6 +2,7 @@
 #![tactic(auto)]
 
 mod collect;
+mod columns;
 mod descriptors;
 mod disk_files;
 mod entries;
@@ -48,7 +49,7 @@ fn program_args(rt: &HostRuntime) -> Result<Vec<String>, u8> {
 fn may_tell_why(request: &Request<'_>) -> bool {
     match request {
         Request::Files(FileRequest::Merge { .. } | FileRequest::Migrate { .. }) => false,
-        Request::Files(_) => true,
+        Request::Files(_) | Request::Prove { .. } | Request::Confirm { .. } => true,
         _ => false,
     }
 }
@@ -126,6 +127,10 @@ fn main(rt: HostRuntime) -> ExitCode {
         ) => {
             let room = spill::Room { dir, memory_mib };
             spill::archive(&rt, rt.alloc(), input_framing, reading, &room)
+        }
+        Ok(Request::Count { options }) => {
+            let options = columns::fitted(&rt, options);
+            on_files(&rt, Request::Count { options }, &mut output, &mut diagnostics)
         }
         Ok(request) => on_files(&rt, request, &mut output, &mut diagnostics),
         Err(fault) => report_words_fault(&fault, &mut diagnostics),

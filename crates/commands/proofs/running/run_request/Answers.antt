@@ -23,6 +23,25 @@ returns-in-Select-clause-unread g c = λ no. absurd (no (rw c.in-Select.is tt))
 pub returns-in-Digest-clause-ran : goal.returns-in-Digest-clause-ran
 returns-in-Digest-clause-ran g c = rw c.in-Digest.is c.digest_archive.ensures
 
+pub returns-in-Count-clause-ran : goal.returns-in-Count-clause-ran
+returns-in-Count-clause-ran g c =
+    rw c.in-Count.is (inr (c.in-Count.options, refl, refl, refl, c.count_archive.ensures))
+
+pub returns-in-Count-clause-unread : goal.returns-in-Count-clause-unread
+returns-in-Count-clause-unread g c = λ no. absurd (no (rw c.in-Count.is tt))
+
+pub returns-in-Prove-clause-ran : goal.returns-in-Prove-clause-ran
+returns-in-Prove-clause-ran g c = rw c.in-Prove.is c.prove_file.ensures
+
+pub returns-in-Prove-clause-unread : goal.returns-in-Prove-clause-unread
+returns-in-Prove-clause-unread g c = λ no. absurd (no (rw c.in-Prove.is tt))
+
+pub returns-in-Confirm-clause-ran : goal.returns-in-Confirm-clause-ran
+returns-in-Confirm-clause-ran g c = rw c.in-Confirm.is c.confirm_file.ensures
+
+pub returns-in-Confirm-clause-unread : goal.returns-in-Confirm-clause-unread
+returns-in-Confirm-clause-unread g c = λ no. absurd (no (rw c.in-Confirm.is tt))
+
 pub returns-in-Root-clause-ran : goal.returns-in-Root-clause-ran
 returns-in-Root-clause-ran g c = rw c.in-Root.is c.root_archive.ensures
 

@@ -1,0 +1,6 @@
+//! Stub.
+#![tactic(auto)]
+
+mod options;
+
+pub use options::{CountForm, CountKey, CountOptions};
