@@ -218,7 +218,7 @@ pub const FROM: OptionRow = OptionRow {
     form: Form::Single,
     value: "time",
     kind: Kind::Time,
-    help: "Records at or after this time: 2026-11-25T10:00:00Z, or 2026-11-25 or 2026-11-25T10:00 of UTC",
+    help: "Records at or after this time: 2026-11-25T10:00:00Z; 2026-11-25T10:00 or 2026-11-25 (UTC); or -30m, -1h, -2d",
 };
 
 /// `--to` of select, read and follow.

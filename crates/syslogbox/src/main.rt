@@ -1,6 +1,7 @@
 //! Reads syslog records and writes them in their one canonical form.
 #![tactic(auto)]
 
+mod ago;
 mod collect;
 mod columns;
 mod descriptors;
@@ -32,15 +33,17 @@ use std::process::ExitCode;
 use std::{env, io};
 use telling::line;
 
-// The arguments without the program's name, or the exit status where they cannot be read.
+// The arguments without the program's name, with timestamps for times that count back from now; or the
+// exit status where they cannot be read.
 fn program_args(rt: &HostRuntime) -> Result<Vec<String>, u8> {
     let args = match env::args(rt) {
         Ok(args) => args,
         Err(error) if error.kind() == io::ErrorKind::OutOfMemory => return Err(NO_MEMORY),
         Err(_) => return Err(FAULT),
     };
-    match args.skip(1).collect(rt.alloc()) {
-        Ok(args) => Ok(args),
+    let words = args.skip(1).collect(rt.alloc());
+    match words.and_then(|words| ago::with_times(rt, rt.alloc(), words)) {
+        Ok(words) => Ok(words),
         Err(_) => Err(NO_MEMORY),
     }
 }
