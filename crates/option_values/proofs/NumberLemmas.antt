@@ -1,6 +1,6 @@
 -- Numbers in words.
 use Rattle.std.proofs.Common.{◌≡◌, ◌≢◌, ℕ, ◌<◌, ◌≤◌, ◌^◌, List, true, Some, None}
-use Rattle.std.proofs.Common.{Err, get_or, length, ap, sym, ◌∙◌, arith}
+use Rattle.std.proofs.Common.{Err, get_or, length, ap, subst, sym, ◌∙◌, arith}
 use Rattle.std.specs.Prelude.{IfSome, not, ◌==◌, nat_le, ◌&&◌}
 use Rattle.std.specs.Str.{all_ascii_digits}
 use Rattle.std.specs.Str.Parse.{IsNumeral, digits_value, ParsesUnsigned, without_leading_plus}
@@ -43,6 +43,11 @@ pub parsed_number : (bits : ℕ) (text : List ℕ) (n : ℕ)
 parsed_number bits text n h plus =
     let e : without_leading_plus text ≡ text = without_leading_plus_none text plus in
     let k = rw e at h in (own.from text k.0.0.1, k.0.0.0, k.1)
+
+pub parsed_small : (bits : ℕ) (text : List ℕ) (n : ℕ)
+    → (IsNumeral 10 (without_leading_plus text) × (digits_value 10 (without_leading_plus text) < 2 ^ bits))
+    × (n ≡ digits_value 10 (without_leading_plus text)) → n < 2 ^ bits
+parsed_small bits text n h = subst (λ m. m < 2 ^ bits) (sym h.1) h.0.1
 
 pub unparsed_number : {E : Type 0} (bits first last : ℕ) (text : List ℕ) (e : E)
     → ParsesUnsigned bits 10 text (Err e)
