@@ -100,10 +100,7 @@ fn form_by(json: bool, bars: bool) -> Result<CountForm, Refusal<'static>>
 }
 
 // The request of `count` with these keys.
-fn with_keys<'a>(
-    keys: Vec<CountKey>,
-    matches: &ArgMatches<'a>,
-) -> Result<Request<'a>, Refusal<'a>>
+fn with_keys<'a>(keys: Vec<CountKey>, matches: &ArgMatches<'a>) -> Result<Request<'a>, Refusal<'a>>
     ensures { option_map asked_by (result_ok result)
         ≡ count_of keys.entry.items (rows_of (found_of matches.now)) }
 {

@@ -154,7 +154,12 @@ fn main(rt: HostRuntime) -> ExitCode {
         }
         Ok(Request::Count { options }) => {
             let options = columns::fitted(&rt, options);
-            on_files(&rt, Request::Count { options }, &mut output, &mut diagnostics)
+            on_files(
+                &rt,
+                Request::Count { options },
+                &mut output,
+                &mut diagnostics,
+            )
         }
         Ok(request) => on_files(&rt, request, &mut output, &mut diagnostics),
         Err(fault) => report_words_fault(&fault, &mut diagnostics),

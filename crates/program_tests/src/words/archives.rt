@@ -153,7 +153,15 @@ fn count_takes_keys_and_a_form(rt: HostRuntime) -> Result<(), Fail> {
     for (words, keys, top, form) in rows {
         assert!(rt; counts(&rt, words, keys, top, form), "{words:?}");
     }
-    for keys in ["", "hosts", "host,", ",host", "host, app", "host,,app", "Host"] {
+    for keys in [
+        "",
+        "hosts",
+        "host,",
+        ",host",
+        "host, app",
+        "host,,app",
+        "Host",
+    ] {
         refuses_all(&rt, &[&["count", "--by", keys]])?;
     }
     refuses_all(
@@ -178,7 +186,10 @@ fn confirms<'a>(rt: &HostRuntime, words: &'a [&'a str]) -> Option<(TreeHead, &'a
 
 #[test]
 fn proofs_are_of_the_records_of_a_file(rt: HostRuntime) -> Result<(), Fail> {
-    let proves = matches!(asked(&rt, &["prove", "f"]), Ok(Request::Prove { records: "f" }));
+    let proves = matches!(
+        asked(&rt, &["prove", "f"]),
+        Ok(Request::Prove { records: "f" })
+    );
     assert!(rt; proves);
     let low = "00ff00000000000000000000000000000000000000000000000000000000001a";
     let high = "00FF00000000000000000000000000000000000000000000000000000000001A";

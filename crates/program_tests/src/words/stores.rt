@@ -75,7 +75,10 @@ fn follows<'a>(rt: &HostRuntime, words: &'a [&'a str]) -> Option<(&'a str, bool,
 
 #[test]
 fn a_store_is_followed(rt: HostRuntime) -> Result<(), Fail> {
-    assert_eq!(rt; follows(&rt, &["follow", "d"]), Some(("d", true, false, false)));
+    assert_eq!(rt;
+        follows(&rt, &["follow", "d"]),
+        Some(("d", true, false, false))
+    );
     let words = [
         "follow",
         "--from-start",
