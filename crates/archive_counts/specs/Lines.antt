@@ -1,0 +1,65 @@
+-- What the entries of an archive have under some keys, as lines.
+use Rattle.std.specs.Prelude.{◌≡◌, ◌≢◌, ℕ, ℤ, ◌<◌, ◌⊎◌, List, [], ◌∷◌, Option, None, Some, length, take}
+use Rattle.std.specs.List.{AllByRecursion}
+use Rattle.syslog_value.specs.Order.{OctetsBelow}
+use Rattle.syslog_fields.specs.Canonical.{TimeForm}
+use Rattle.archive_text.specs.Entries.{Entry, Has}
+use Rattle.archive_text.specs.Text.{text_of}
+use Rattle.archive_sets.specs.Selections.{IsSelection}
+use Rattle.archive_counts.specs.Tallies.{IsEarliest, IsLatest}
+use Rattle.archive_counts.specs.Words.{HasWords, spaced}
+use Rattle.archive_counts.specs.declared.key.CountKey.{CountKey}
+
+-- what a line tells: words, the entries that have them, and their earliest and latest time
+pub record Line : Type 0 where
+  pub words : List (List ℕ)
+  pub entries : List Entry
+  pub first : List ℕ
+  pub last : List ℕ
+
+-- how many records there are, and how many octets their archive has
+abbrev pub count_of : Line → ℕ
+count_of l = length l.entries
+
+abbrev pub octets_of : Line → ℕ
+octets_of l = length (text_of l.entries)
+
+-- the canonical form of the earliest of some instants, or of the latest: NILVALUE where there is none
+abbrev pub IsFirstTime : List Entry → List ℕ → Type 0
+IsFirstTime es time = (i : Option ℤ) × IsEarliest es i × TimeForm i time
+
+abbrev pub IsLastTime : List Entry → List ℕ → Type 0
+IsLastTime es time = (i : Option ℤ) × IsLatest es i × TimeForm i time
+
+-- a line tells of all entries that have its words
+pub record IsLineOf (keys : List CountKey) (xs : List Entry) (l : Line) : Type 0 where
+  pub selection : IsSelection (HasWords keys l.words) xs l.entries
+  pub first : IsFirstTime l.entries l.first
+  pub last : IsLastTime l.entries l.last
+
+-- some line tells of the entry
+abbrev pub IsToldOf : List Line → Entry → Type 0
+IsToldOf [] e = ⊥
+IsToldOf (l ∷ ls) e = Has l.entries e ⊎ IsToldOf ls e
+
+-- more records first; of as many, by the octets of the words, one word after the other
+abbrev pub IsAhead : Line → Line → Type 0
+IsAhead l m = (count_of m < count_of l) ⊎ ((count_of l ≡ count_of m) × OctetsBelow (spaced l.words) (spaced m.words))
+
+-- each line comes before all that follow it
+abbrev pub AreRanked : List Line → Type 0
+AreRanked [] = Unit {0}
+AreRanked (l ∷ ls) = AllByRecursion (IsAhead l) ls × AreRanked ls
+
+-- a line for each of the words that entries have; without keys one line, even of no entries
+pub record AreLinesOf (keys : List CountKey) (xs : List Entry) (ls : List Line) : Type 0 where
+  pub each : AllByRecursion (IsLineOf keys xs) ls
+  pub all : (e : Entry) → Has xs e → IsToldOf ls e
+  pub some : keys ≢ [] → AllByRecursion (λ l. l.entries ≢ []) ls
+  pub alone : keys ≡ [] → ls ≢ []
+  pub ranked : AreRanked ls
+
+-- the first lines, at most so many
+abbrev pub first_lines : Option ℕ → List Line → List Line
+first_lines None ls = ls
+first_lines (Some n) ls = take n ls

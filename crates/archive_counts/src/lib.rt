@@ -1,0 +1,20 @@
+//! The records of an archive, counted by what they have in their fields: how many there are of each
+//! host, severity or hour, how many octets their archive has, and from when to when they are.
+//!
+//! [`count_stream`] writes a line for each key as the archive is read from a device.
+#![tactic(auto)]
+
+mod count;
+mod counting;
+mod key;
+mod line;
+mod options;
+mod rows;
+mod table;
+mod tally;
+mod words;
+
+pub use archive_sets::SelectFault as CountFault;
+pub use count::count_stream;
+pub use key::CountKey;
+pub use options::{CountForm, CountOptions};
