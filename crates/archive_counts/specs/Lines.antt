@@ -2,7 +2,6 @@
 use Rattle.std.specs.Prelude.{◌≡◌, ◌≢◌, ℕ, ℤ, ◌<◌, ◌⊎◌, List, [], ◌∷◌, Option, None, Some, length, take}
 use Rattle.std.specs.List.{AllByRecursion}
 use Rattle.syslog_value.specs.Order.{OctetsBelow}
-use Rattle.syslog_fields.specs.Canonical.{TimeForm}
 use Rattle.archive_text.specs.Entries.{Entry, Has}
 use Rattle.archive_text.specs.Text.{text_of}
 use Rattle.archive_sets.specs.Selections.{IsSelection}
@@ -10,12 +9,12 @@ use Rattle.archive_counts.specs.Tallies.{IsEarliest, IsLatest}
 use Rattle.archive_counts.specs.Words.{HasWords, spaced}
 use Rattle.archive_counts.specs.declared.key.CountKey.{CountKey}
 
--- what a line tells: words, the entries that have them, and their earliest and latest time
+-- what a line tells: words, the entries that have them, and their earliest and latest instants
 pub record Line : Type 0 where
   pub words : List (List ℕ)
   pub entries : List Entry
-  pub first : List ℕ
-  pub last : List ℕ
+  pub first : Option ℤ
+  pub last : Option ℤ
 
 -- how many records there are, and how many octets their archive has
 abbrev pub count_of : Line → ℕ
@@ -24,18 +23,11 @@ count_of l = length l.entries
 abbrev pub octets_of : Line → ℕ
 octets_of l = length (text_of l.entries)
 
--- the canonical form of the earliest of some instants, or of the latest: NILVALUE where there is none
-abbrev pub IsFirstTime : List Entry → List ℕ → Type 0
-IsFirstTime es time = (i : Option ℤ) × IsEarliest es i × TimeForm i time
-
-abbrev pub IsLastTime : List Entry → List ℕ → Type 0
-IsLastTime es time = (i : Option ℤ) × IsLatest es i × TimeForm i time
-
 -- a line tells of all entries that have its words
 pub record IsLineOf (keys : List CountKey) (xs : List Entry) (l : Line) : Type 0 where
   pub selection : IsSelection (HasWords keys l.words) xs l.entries
-  pub first : IsFirstTime l.entries l.first
-  pub last : IsLastTime l.entries l.last
+  pub first : IsEarliest l.entries l.first
+  pub last : IsLatest l.entries l.last
 
 -- some line tells of the entry
 abbrev pub IsToldOf : List Line → Entry → Type 0
@@ -59,7 +51,7 @@ pub record AreLinesOf (keys : List CountKey) (xs : List Entry) (ls : List Line) 
   pub alone : keys ≡ [] → ls ≢ []
   pub ranked : AreRanked ls
 
--- the first lines, at most so many
-abbrev pub first_lines : Option ℕ → List Line → List Line
-first_lines None ls = ls
-first_lines (Some n) ls = take n ls
+-- the first items, at most so many
+abbrev pub first_of : {X : Type 0} → Option ℕ → List X → List X
+first_of None xs = xs
+first_of (Some n) xs = take n xs

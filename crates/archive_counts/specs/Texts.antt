@@ -1,44 +1,45 @@
 -- The text of lines.
-use Rattle.std.specs.Prelude.{◌≡◌, ℕ, ℤ, List, [], ◌∷◌, ◌++◌, Option, decimal, length}
-use Rattle.std.specs.List.{flat_map}
+use Rattle.std.specs.Prelude.{◌≡◌, ℕ, ℤ, List, [], ◌∷◌, ◌++◌, Option, decimal}
+use Rattle.octet_language.specs.Language.{Language, Each}
 use Rattle.syslog_fields.specs.Canonical.{TimeForm}
 use Rattle.archive_counts.specs.Lines.{Line, count_of, octets_of}
 use Rattle.archive_counts.specs.Tallies.{IsTallyOf}
 use Rattle.archive_counts.specs.Words.{spaced}
 use Rattle.archive_counts.specs.declared.rows.Row.{Row}
-use Rattle.archive_counts.specs.declared.tally.Tally.{Tally}
+
+-- two instants in canonical form, or NILVALUE
+pub record AreTimes (first last : Option ℤ) (from to : List ℕ) : Type 0 where
+  pub first_form : TimeForm first from
+  pub last_form : TimeForm last to
+
+-- COUNT OCTETS FIRST LAST
+abbrev pub FrontOf : ℕ → ℕ → Option ℤ → Option ℤ → Language
+FrontOf count octets first last text = (from : List ℕ) × (to : List ℕ) × AreTimes first last from to
+    × (text ≡ decimal count ++ 32 ∷ decimal octets ++ 32 ∷ from ++ 32 ∷ to)
+
+-- with the words, each behind a space, and a line feed
+abbrev pub PlainLine : ℕ → ℕ → Option ℤ → Option ℤ → List ℕ → Language
+PlainLine count octets first last words text =
+    (front : List ℕ) × FrontOf count octets first last front × (text ≡ front ++ words ++ 10 ∷ [])
 
 -- COUNT OCTETS FIRST LAST KEY..
-abbrev pub plain_line : Line → List ℕ
-plain_line l =
-    decimal (count_of l) ++ 32 ∷ decimal (octets_of l) ++ 32 ∷ l.first ++ 32 ∷ l.last ++ spaced l.words ++ 10 ∷ []
+abbrev pub LineText : Line → Language
+LineText l = PlainLine (count_of l) (octets_of l) l.first l.last (spaced l.words)
 
-abbrev pub plain_lines : List Line → List ℕ
-plain_lines ls = flat_map plain_line ls
-
--- ---- from a row
+-- ---- from rows
 
 -- the row has what the line tells
 pub record IsRowFor (r : Row) (l : Line) : Type 0 where
   pub words : r.words.items ≡ spaced l.words
   pub tally : IsTallyOf r.tally l.entries
-  pub first : TimeForm r.tally.first l.first
-  pub last : TimeForm r.tally.last l.last
+  pub first : r.tally.first ≡ l.first
+  pub last : r.tally.last ≡ l.last
 
 abbrev pub AreRowsFor : List Row → List Line → Type 0
 AreRowsFor [] ls = ls ≡ []
 AreRowsFor (r ∷ rs) [] = ⊥
 AreRowsFor (r ∷ rs) (l ∷ ls) = IsRowFor r l × AreRowsFor rs ls
 
--- COUNT OCTETS FIRST LAST
-abbrev pub FrontText : Tally → List ℕ → Type 0
-FrontText t text = (first : List ℕ) × (last : List ℕ) × TimeForm t.first first × TimeForm t.last last
-    × (text ≡ decimal t.records ++ 32 ∷ decimal t.octets ++ 32 ∷ first ++ 32 ∷ last)
-
 -- the line that a row is told by
-abbrev pub RowText : Row → List ℕ → Type 0
-RowText r text = (l : Line) → IsRowFor r l → text ≡ plain_line l
-
--- the lines that rows are told by
-abbrev pub RowsText : List Row → List ℕ → Type 0
-RowsText rows text = (ls : List Line) → AreRowsFor rows ls → text ≡ plain_lines ls
+abbrev pub RowText : Row → Language
+RowText r = PlainLine r.tally.records r.tally.octets r.tally.first r.tally.last r.words.items

@@ -3,8 +3,8 @@
 ghost use Rattle.std.specs.Prelude.{◌≡◌, IfOk, IsErrOf, List, MatchResult};
 ghost use Rattle.archive_text.specs.Entries.{Entry};
 ghost use Rattle.archive_sets.specs.Failures.{TellsFailures};
-ghost use Rattle.archive_counts.specs.Counted.{Counted, Stopped, text_for};
-ghost use Rattle.archive_counts.specs.Lines.{AreLinesOf, Line};
+ghost use Rattle.archive_counts.specs.Counted.{Counted, Stopped, TextFor};
+ghost use Rattle.archive_counts.specs.Lines.{AreLinesOf, Line, first_of};
 ghost use Rattle.archive_counts.specs.Tables.{IsTableOf};
 
 use crate::counting::Counting;
@@ -17,7 +17,9 @@ use octet_devices::{Input, Output, WriteFault, write_all};
 use std::alloc::{AllocError, Global};
 
 // The first rows, at most so many.
-fn first_rows(rows: &[Row], top: Option<u64>) -> &[Row] {
+fn first_rows(rows: &[Row], top: Option<u64>) -> &[Row]
+    ensures { result.now ≡ first_of top rows.now }
+{
     match top {
         Some(most) if most < rows.len() as u64 => &rows[..most as usize],
         _ => rows,
@@ -28,7 +30,7 @@ fn first_rows(rows: &[Row], top: Option<u64>) -> &[Row] {
 fn lines_of(alloc: Global, options: &CountOptions, table: Table) -> Result<Vec<u8>, AllocError>
     ensures { IfOk result (λ text. (xs : List Entry) → IsTableOf options.now.keys.items table xs
         → (lines : List Line) × AreLinesOf options.now.keys.items xs lines
-        × (text.items ≡ text_for options.now lines)) }
+        × TextFor options.now lines text.items) }
 {
     let mut rows = table.into_rows()?;
     rank(&mut rows);

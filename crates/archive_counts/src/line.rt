@@ -1,10 +1,10 @@
 //! The lines of a count.
 
-ghost use Rattle.octet_language.specs.Language.{Only};
+ghost use Rattle.octet_language.specs.Language.{Each, Only};
 ghost use Rattle.std.specs.Prelude.{decimal};
 ghost use Rattle.syslog_fields.specs.Appending.{Puts};
 ghost use Rattle.syslog_fields.specs.Canonical.{TimeForm};
-ghost use Rattle.archive_counts.specs.Texts.{FrontText, RowText, RowsText};
+ghost use Rattle.archive_counts.specs.Texts.{FrontOf, RowText};
 
 use crate::rows::Row;
 use crate::tally::Tally;
@@ -32,7 +32,8 @@ fn put_time(instant: Option<Instant>, out: &mut Vec<u8>) -> Result<(), AllocErro
 
 // Appends COUNT OCTETS FIRST LAST.
 fn put_front(tally: &Tally, out: &mut Vec<u8>) -> Result<(), AllocError>
-    ensures { Puts (FrontText tally.now) out.old.items out.new.items result }
+    ensures { Puts (FrontOf tally.now.records tally.now.octets tally.now.first tally.now.last)
+        out.old.items out.new.items result }
 {
     put_number(tally.records, out)?;
     put(b" ", out)?;
@@ -53,7 +54,7 @@ fn put_row(row: &Row, out: &mut Vec<u8>) -> Result<(), AllocError>
 
 /// Appends a line for each row. If memory is refused, a part may have been appended.
 pub fn put_rows(rows: &[Row], out: &mut Vec<u8>) -> Result<(), AllocError>
-    ensures { Puts (RowsText rows.now) out.old.items out.new.items result }
+    ensures { Puts (Each RowText rows.now) out.old.items out.new.items result }
 {
     'rows: for row in rows {
         put_row(row, out)?;

@@ -17,7 +17,7 @@ pub struct Table {
 }
 
 impl Table {
-    ghost use Rattle.std.specs.Prelude.{◌≡◌, ◌↔◌, ◌×◌, [], IfOk, OnErr, OnOk};
+    ghost use Rattle.std.specs.Prelude.{[], IfOk, OnOk};
     ghost use Rattle.archive_counts.specs.Rows.{AreRowsOf};
     ghost use Rattle.archive_counts.specs.Tables.{AddsTo, IsTableOf};
 
