@@ -1,6 +1,6 @@
 pub mod Tallies
-pub mod Words
+pub mod WordTexts
 pub mod Texts
 pub mod Tables
 pub mod Lines
-pub mod Counting
+pub mod Steps

@@ -28,7 +28,7 @@ use Rattle.archive_counts.specs.declared.key.CountKey.{CountKey}
 use Rattle.archive_counts.specs.declared.rows.Row.{Row}
 use Rattle.archive_counts.specs.declared.table.Table.{Table}
 use Rattle.archive_counts.specs.declared.tally.Tally.{Tally}
-use Rattle.archive_counts.proofs.Words.{has_words}
+use Rattle.archive_counts.proofs.WordTexts.{has_words}
 
 -- ---- the line of a row
 

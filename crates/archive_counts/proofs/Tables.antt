@@ -23,7 +23,7 @@ use Rattle.archive_counts.specs.Words.{HasText}
 use Rattle.archive_counts.specs.declared.key.CountKey.{CountKey}
 use Rattle.archive_counts.specs.declared.table.Table.{Table}
 use Rattle.archive_counts.specs.declared.tally.Tally.{Tally}
-use Rattle.archive_counts.proofs.Words.{one_text}
+use Rattle.archive_counts.proofs.WordTexts.{one_text}
 
 -- ---- octets are the same, or they are not
 

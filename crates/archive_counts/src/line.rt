@@ -14,7 +14,7 @@ use syslog_fields::appending::put;
 use syslog_grammar::canonical_timestamp;
 use syslog_value::Instant;
 
-fn put_number(number: u64, out: &mut Vec<u8>) -> Result<(), AllocError>
+pub fn put_number(number: u64, out: &mut Vec<u8>) -> Result<(), AllocError>
     ensures { Puts (Only (decimal number)) out.old.items out.new.items result }
 {
     put(Buffer::new().format(number).as_bytes(), out)
