@@ -14,6 +14,7 @@ use Rattle.std.proofs.lemmas.Map.Keys.{sorted_head, sorted_tail}
 use Rattle.octet_language.specs.Language.{Each}
 use Rattle.syslog_value.specs.Order.{OctetsBelow}
 use Rattle.syslog_value.proofs.Octets.{octets_ranked}
+use Rattle.syslog_reading.proofs.Valid.{well_formed_valid}
 use Rattle.archive_text.specs.Entries.{Entry, Has}
 use Rattle.archive_text.proofs.Members.{all_weaker}
 use Rattle.archive_sets.specs.Selections.{IsSelection}
@@ -23,12 +24,14 @@ use Rattle.archive_counts.specs.Rows.{AreRanked, AreRowsOf, compare_rows, compar
 use Rattle.archive_counts.specs.Tables.{IsNeeded, IsRowOf, IsTableOf, IsTallyAt, tally_at}
 use Rattle.archive_counts.specs.Tallies.{IsTallyOf}
 use Rattle.archive_counts.specs.Texts.{AreRowsFor, IsRowFor, LineText, RowText}
-use Rattle.archive_counts.specs.Words.{HasText, HasWords, spaced}
+use Rattle.archive_counts.specs.Words.{AreSpaced, HasText, HasWords, spaced}
 use Rattle.archive_counts.specs.declared.key.CountKey.{CountKey}
+use Rattle.archive_counts.specs.declared.order.LineOrder.{LineOrder}
+use Rattle.archive_counts.specs.declared.order.LineOrder.TheVariants.{MostFirst, ByWords}
 use Rattle.archive_counts.specs.declared.rows.Row.{Row}
 use Rattle.archive_counts.specs.declared.table.Table.{Table}
 use Rattle.archive_counts.specs.declared.tally.Tally.{Tally}
-use Rattle.archive_counts.proofs.WordTexts.{has_words}
+use Rattle.archive_counts.proofs.WordTexts.{are_spaced, has_words}
 
 -- ---- the line of a row
 
@@ -36,7 +39,7 @@ use Rattle.archive_counts.proofs.WordTexts.{has_words}
 pub record Told (keys : List CountKey) (xs : List Entry) (r : Row) : Type 0 where
   pub line : Line
   pub is : IsLineOf keys xs line
-  pub row : IsRowFor r line
+  pub row : IsRowFor keys r line
   pub some : keys ≢ [] → line.entries ≢ []
   pub has : (x : Entry) → HasText keys r.words.items x → HasWords keys line.words x
 
@@ -51,7 +54,7 @@ reselect P Q xs ys same s = record {
 }
 
 line_from : (keys : List CountKey) (xs : List Entry) (r : Row) (es : List Entry) (ws : List (List ℕ))
-    → IsSelection (HasText keys r.words.items) xs es → IsTallyOf r.tally es → r.words.items ≡ spaced ws
+    → IsSelection (HasText keys r.words.items) xs es → IsTallyOf r.tally es → AreSpaced keys ws r.words.items
     → ((x : Entry) → HasText keys r.words.items x ↔ HasWords keys ws x) → (keys ≢ [] → es ≢ []) → Told keys xs r
 line_from keys xs r es ws s t is same some = record {
   line = record { words = ws; entries = es; first = r.tally.first; last = r.tally.last };
@@ -81,7 +84,8 @@ line_of_some keys xs r e es s t =
     let words : HasWords keys ws e =
     record { of = first.of; well_formed = first.well_formed; holds = first.holds.1 } in
     let is : r.words.items ≡ spaced ws = first.holds.2 in
-    line_from keys xs r (e ∷ es) ws s t is
+    line_from keys xs r (e ∷ es) ws s t
+    (are_spaced keys first.of ws r.words.items (well_formed_valid first.of e.octets first.well_formed) first.holds.1 is)
     (λ x. subst (λ (l : List ℕ). HasText keys l x ↔ HasWords keys ws x) (sym is) (has_words keys ws e x words))
     (λ k none. absurd cc)
 
@@ -89,7 +93,7 @@ line_of_none : (keys : List CountKey) (xs : List Entry) (r : Row) (es : List Ent
     → IsSelection (HasText keys r.words.items) xs es → IsTallyOf r.tally es → keys ≡ [] → r.words.items ≡ []
     → Told keys xs r
 line_of_none keys xs r es s t none is =
-    line_from keys xs r es [] s t is
+    line_from keys xs r es [] s t (record { is = is; free = tt; count = sym (ap length none) })
     (λ x. subst (λ (l : List ℕ). HasText keys l x ↔ HasWords keys [] x) (sym is) (no_words keys x none))
     (λ some. absurd (some none))
 
@@ -139,7 +143,7 @@ each_some keys xs [] h k = tt
 each_some keys xs (r ∷ rows) h k = (h.0.some k, each_some keys xs rows h.1 k)
 
 rows_for : (keys : List CountKey) (xs : List Entry) (rows : List Row) (h : AllByRecursion (Told keys xs) rows)
-    → AreRowsFor rows (lines_of keys xs rows h)
+    → AreRowsFor keys rows (lines_of keys xs rows h)
 unfolding lines_of
 rows_for keys xs [] h = refl
 rows_for keys xs (r ∷ rows) h = (h.0.row, rows_for keys xs rows h.1)
@@ -179,11 +183,21 @@ below_octets a b Less e h = octets_ranked a b Less e
 below_octets a b Equal e h = absurd cc
 below_octets a b Greater e h = absurd cc
 
-is_ahead : (r s : Row) (l m : Line) → IsRowFor r l → IsRowFor s m → compare_rows r s ≡ Less → IsAhead l m
-is_ahead r s l m h k less = by_parts (less_first (nat_cmp s.tally.records r.tally.records) (compare_words r s) less)
+words_ahead : (keys : List CountKey) (r s : Row) (l m : Line) → IsRowFor keys r l → IsRowFor keys s m
+    → compare_words r s ≡ Less → OctetsBelow (spaced l.words) (spaced m.words)
+words_ahead keys r s l m h k less =
+    subst (OctetsBelow (spaced l.words)) k.words.is
+    (subst (λ (t : List ℕ). OctetsBelow t s.words.items) h.words.is
+    (below_octets r.words.items s.words.items (compare_words r s) refl less))
+
+is_ahead : (keys : List CountKey) (order : LineOrder) (r s : Row) (l m : Line) → IsRowFor keys r l → IsRowFor keys s m
+    → compare_rows order r s ≡ Less → IsAhead order l m
+is_ahead keys ByWords r s l m h k less = words_ahead keys r s l m h k less
+is_ahead keys MostFirst r s l m h k less =
+    by_parts (less_first (nat_cmp s.tally.records r.tally.records) (compare_words r s) less)
   where
     by_parts : (nat_cmp s.tally.records r.tally.records ≡ Less)
-        ⊎ ((nat_cmp s.tally.records r.tally.records ≡ Equal) × (compare_words r s ≡ Less)) → IsAhead l m
+        ⊎ ((nat_cmp s.tally.records r.tally.records ≡ Equal) × (compare_words r s ≡ Less)) → IsAhead MostFirst l m
     by_parts (inl more) =
         let fewer : s.tally.records < r.tally.records =
         more_records s.tally.records r.tally.records (nat_cmp s.tally.records r.tally.records) refl more in
@@ -191,37 +205,34 @@ is_ahead r s l m h k less = by_parts (less_first (nat_cmp s.tally.records r.tall
     by_parts (inr (same, below)) =
         let equal : s.tally.records ≡ r.tally.records =
         as_many s.tally.records r.tally.records (nat_cmp s.tally.records r.tally.records) refl same in
-        let octets : OctetsBelow r.words.items s.words.items =
-        below_octets r.words.items s.words.items (compare_words r s) refl below in
-        inr (
-          omega (arith, equal, h.tally.records, k.tally.records),
-          subst (OctetsBelow (spaced l.words)) k.words (subst (λ (t : List ℕ). OctetsBelow t s.words.items) h.words octets),
-        )
+        inr (omega (arith, equal, h.tally.records, k.tally.records), words_ahead keys r s l m h k below)
 
-ahead_of_all : (keys : List CountKey) (xs : List Entry) (r : Row) (l : Line) (rows : List Row)
-    (h : AllByRecursion (Told keys xs) rows) → IsRowFor r l → AllByRecursion (λ s. compare_rows r s ≡ Less) rows
-    → AllByRecursion (IsAhead l) (lines_of keys xs rows h)
+ahead_of_all : (keys : List CountKey) (order : LineOrder) (xs : List Entry) (r : Row) (l : Line) (rows : List Row)
+    (h : AllByRecursion (Told keys xs) rows) → IsRowFor keys r l
+    → AllByRecursion (λ s. compare_rows order r s ≡ Less) rows
+    → AllByRecursion (IsAhead order l) (lines_of keys xs rows h)
 unfolding lines_of
-ahead_of_all keys xs r l [] h is less = tt
-ahead_of_all keys xs r l (s ∷ rows) h is less =
-    (is_ahead r s l h.0.line is h.0.row less.0, ahead_of_all keys xs r l rows h.1 is less.1)
+ahead_of_all keys order xs r l [] h is less = tt
+ahead_of_all keys order xs r l (s ∷ rows) h is less =
+    (is_ahead keys order r s l h.0.line is h.0.row less.0, ahead_of_all keys order xs r l rows h.1 is less.1)
 
-lines_ranked : (keys : List CountKey) (xs : List Entry) (rows : List Row) (h : AllByRecursion (Told keys xs) rows)
-    → AreRanked rows → AreRankedLines (lines_of keys xs rows h)
+lines_ranked : (keys : List CountKey) (order : LineOrder) (xs : List Entry) (rows : List Row)
+    (h : AllByRecursion (Told keys xs) rows)
+    → AreRanked order rows → AreRankedLines order (lines_of keys xs rows h)
 unfolding lines_of
-lines_ranked keys xs [] h up = tt
-lines_ranked keys xs (r ∷ rows) h up = (
-  ahead_of_all keys xs r h.0.line rows h.1 h.0.row (sorted_head compare_rows r rows up),
-  lines_ranked keys xs rows h.1 (sorted_tail compare_rows r rows up),
+lines_ranked keys order xs [] h up = tt
+lines_ranked keys order xs (r ∷ rows) h up = (
+  ahead_of_all keys order xs r h.0.line rows h.1 h.0.row (sorted_head (compare_rows order) r rows up),
+  lines_ranked keys order xs rows h.1 (sorted_tail (compare_rows order) r rows up),
 )
 
 -- ---- what the rows of a table are told by
 
 -- lines, and the rows that have what they tell
-pub record Lines (keys : List CountKey) (xs : List Entry) (rows : List Row) : Type 0 where
+pub record Lines (keys : List CountKey) (order : LineOrder) (xs : List Entry) (rows : List Row) : Type 0 where
   pub lines : List Line
-  pub are : AreLinesOf keys xs lines
-  pub rows_for : AreRowsFor rows lines
+  pub are : AreLinesOf keys order xs lines
+  pub rows_for : AreRowsFor keys rows lines
 
 all_told : (keys : List CountKey) (t : Table) (xs : List Entry) (rows : List Row) → IsTableOf keys t xs
     → ((r : Row) → Contains rows r → tally_at t r.words.items ≡ Some r.tally) → AllByRecursion (Told keys xs) rows
@@ -234,14 +245,14 @@ has_tally : (o : Option Tally) (es : List Entry) (e : Entry) → IsTallyAt o es 
 has_tally None es e none has = absurd (subst (λ (l : List Entry). Has l e) none has)
 has_tally (Some u) es e tally has = tt
 
-some_lines : (rows : List Row) (ls : List Line) (r : Row) → AreRowsFor rows ls → IsAmong rows r → ls ≢ []
-some_lines [] ls r are among none = among
-some_lines (s ∷ rows) [] r are among none = are
-some_lines (s ∷ rows) (l ∷ ls) r are among none = absurd cc
+some_lines : (keys : List CountKey) (rows : List Row) (ls : List Line) (r : Row) → AreRowsFor keys rows ls → IsAmong rows r → ls ≢ []
+some_lines keys [] ls r are among none = among
+some_lines keys (s ∷ rows) [] r are among none = are
+some_lines keys (s ∷ rows) (l ∷ ls) r are among none = absurd cc
 
-pub lines_from : (keys : List CountKey) (t : Table) (xs : List Entry) (rows : List Row) → IsTableOf keys t xs
-    → AreRowsOf t rows → AreRanked rows → Lines keys xs rows
-lines_from keys t xs rows h of up =
+pub lines_from : (keys : List CountKey) (order : LineOrder) (t : Table) (xs : List Entry) (rows : List Row)
+    → IsTableOf keys t xs → AreRowsOf t rows → AreRanked order rows → Lines keys order xs rows
+lines_from keys order t xs rows h of up =
     let h' : AllByRecursion (Told keys xs) rows = all_told keys t xs rows h of.each in
     record {
       lines = lines_of keys xs rows h';
@@ -258,37 +269,34 @@ lines_from keys t xs rows h of up =
         some = each_some keys xs rows h';
         alone = λ none.
             let under = of.all [] (h.alone none) in
-            some_lines rows (lines_of keys xs rows h') under.row (rows_for keys xs rows h')
+            some_lines keys rows (lines_of keys xs rows h') under.row (rows_for keys xs rows h')
             (among rows under.row under.among);
-        ranked = lines_ranked keys xs rows h' up;
+        ranked = lines_ranked keys order xs rows h' up;
       };
       rows_for = rows_for keys xs rows h';
     }
 
 -- ---- their text
 
-taken_for : (n : ℕ) (rows : List Row) (ls : List Line) → AreRowsFor rows ls → AreRowsFor (take n rows) (take n ls)
-taken_for zero rows ls h = refl
-taken_for (suc n) [] ls h = subst (λ (k : List Line). take (suc n) k ≡ []) (sym h) refl
-taken_for (suc n) (r ∷ rows) [] h = absurd h
-taken_for (suc n) (r ∷ rows) (l ∷ ls) h = (h.0, taken_for n rows ls h.1)
+taken_for : (keys : List CountKey) (n : ℕ) (rows : List Row) (ls : List Line) → AreRowsFor keys rows ls
+    → AreRowsFor keys (take n rows) (take n ls)
+taken_for keys zero rows ls h = refl
+taken_for keys (suc n) [] ls h = subst (λ (k : List Line). take (suc n) k ≡ []) (sym h) refl
+taken_for keys (suc n) (r ∷ rows) [] h = absurd h
+taken_for keys (suc n) (r ∷ rows) (l ∷ ls) h = (h.0, taken_for keys n rows ls h.1)
 
-first_for : (top : Option ℕ) (rows : List Row) (ls : List Line) → AreRowsFor rows ls
-    → AreRowsFor (first_of top rows) (first_of top ls)
-first_for None rows ls h = h
-first_for (Some n) rows ls h = taken_for n rows ls h
+pub first_for : (keys : List CountKey) (top : Option ℕ) (rows : List Row) (ls : List Line) → AreRowsFor keys rows ls
+    → AreRowsFor keys (first_of top rows) (first_of top ls)
+first_for keys None rows ls h = h
+first_for keys (Some n) rows ls h = taken_for keys n rows ls h
 
-row_text : (r : Row) (l : Line) (text : List ℕ) → IsRowFor r l → RowText r text → LineText l text
-row_text r l text h t = rw (← h.tally.records, ← h.tally.octets, ← h.first, ← h.last, ← h.words) t
+row_text : (keys : List CountKey) (r : Row) (l : Line) (text : List ℕ) → IsRowFor keys r l → RowText r text
+    → LineText l text
+row_text keys r l text h t = rw (← h.tally.records, ← h.tally.octets, ← h.first, ← h.last, ← h.words.is) t
 
-rows_text : (rows : List Row) (ls : List Line) (text : List ℕ) → AreRowsFor rows ls → Each RowText rows text
-    → Each LineText ls text
-rows_text [] ls text h t = subst (λ (k : List Line). Each LineText k text) (sym h) t
-rows_text (r ∷ rows) [] text h t = absurd h
-rows_text (r ∷ rows) (l ∷ ls) text h (a, b, e, first, more) =
-    (a, b, e, row_text r l a h.0 first, rows_text rows ls b h.1 more)
-
-pub text_of_first : (top : Option ℕ) (rows : List Row) (ls : List Line) (text : List ℕ) → AreRowsFor rows ls
-    → Each RowText (first_of top rows) text → Each LineText (first_of top ls) text
-text_of_first top rows ls text h t =
-    rows_text (first_of top rows) (first_of top ls) text (first_for top rows ls h) t
+pub rows_text : (keys : List CountKey) (rows : List Row) (ls : List Line) (text : List ℕ) → AreRowsFor keys rows ls
+    → Each RowText rows text → Each LineText ls text
+rows_text keys [] ls text h t = subst (λ (k : List Line). Each LineText k text) (sym h) t
+rows_text keys (r ∷ rows) [] text h t = absurd h
+rows_text keys (r ∷ rows) (l ∷ ls) text h (a, b, e, first, more) =
+    (a, b, e, row_text keys r l a h.0 first, rows_text keys rows ls b h.1 more)

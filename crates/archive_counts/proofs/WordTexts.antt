@@ -25,7 +25,8 @@ use Rattle.syslog_reading.proofs.Laws.{one_meaning}
 use Rattle.syslog_reading.proofs.Valid.{well_formed_valid}
 use Rattle.archive_text.specs.Entries.{Entry}
 use Rattle.archive_sets.specs.Fields.{IsOfRecord}
-use Rattle.archive_counts.specs.Words.{AreWordsOf, HasText, HasWords, IsPeriodWord, IsWordOf, WordsText, spaced}
+use Rattle.archive_counts.specs.Words.{AreSpaced, AreWordsOf, HasText, HasWords, IsFree, IsPeriodWord, IsWordOf}
+use Rattle.archive_counts.specs.Words.{WordsText, spaced}
 use Rattle.archive_counts.specs.declared.key.CountKey.{CountKey}
 use Rattle.archive_counts.specs.declared.key.CountKey.TheVariants as key
 
@@ -87,9 +88,6 @@ one_text keys a b e h k =
     also.2 ∙ ap spaced (words_once keys k.of also.0 k.holds.0 also.1 k.holds.1) ∙ sym k.holds.2
 
 -- ---- no word has a space
-
-abbrev pub IsFree : ℕ → Type 0
-IsFree x = x ≢ 32
 
 abbrev has_none : List ℕ → Bool
 has_none [] = true
@@ -198,10 +196,15 @@ word_free key.Day r w v h = period_free 10 r.time w h
 word_free key.Hour r w v h = period_free 13 r.time w h
 word_free key.Minute r w v h = period_free 16 r.time w h
 
-abbrev pub AreFree : List (List ℕ) → Type 0
+abbrev AreFree : List (List ℕ) → Type 0
 AreFree ws = AllByRecursion (AllByRecursion IsFree) ws
 
-pub words_free : (keys : List CountKey) (r : Parts ℤ) (ws : List (List ℕ)) → IsRecord r → AreWordsOf keys r ws → AreFree ws
+words_count : (keys : List CountKey) (r : Parts ℤ) (ws : List (List ℕ)) → AreWordsOf keys r ws → length ws ≡ length keys
+words_count [] r ws h = ap length h
+words_count (k ∷ keys) r [] h = absurd h
+words_count (k ∷ keys) r (w ∷ ws) h = omega (arith, words_count keys r ws h.1)
+
+words_free : (keys : List CountKey) (r : Parts ℤ) (ws : List (List ℕ)) → IsRecord r → AreWordsOf keys r ws → AreFree ws
 words_free [] r ws v h = subst AreFree (sym h) tt
 words_free (k ∷ keys) r [] v h = absurd h
 words_free (k ∷ keys) r (w ∷ ws) v h = (word_free k r w v h.0, words_free keys r ws v h.1)
@@ -229,6 +232,11 @@ one_list (x ∷ keys) r q (a ∷ as) (b ∷ bs) v u h k e =
     let more : spaced as ≡ spaced bs = append_cancel_left a (spaced as) (spaced bs)
     (rest ∙ ap (λ (l : List ℕ). l ++ spaced bs) (sym same)) in
     ap (λ (l : List ℕ). l ∷ as) same ∙ ap (λ (l : List (List ℕ)). b ∷ l) (one_list keys r q as bs v u h.1 k.1 more)
+
+pub are_spaced : (keys : List CountKey) (r : Parts ℤ) (ws : List (List ℕ)) (text : List ℕ) → IsRecord r
+    → AreWordsOf keys r ws → text ≡ spaced ws → AreSpaced keys ws text
+are_spaced keys r ws text v h is =
+    record { is = is; free = words_free keys r ws v h; count = words_count keys r ws h }
 
 -- ---- the entries with the words of one of them
 

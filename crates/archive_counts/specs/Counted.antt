@@ -1,5 +1,5 @@
 -- What a call that counts the records of an archive did.
-use Rattle.std.specs.Prelude.{◌≡◌, ℕ, ◌<◌, List, Option, length, take}
+use Rattle.std.specs.Prelude.{◌≡◌, ℕ, ◌<◌, List, Option, length, map, take}
 use Rattle.std.specs.Io.KnownBytes.{Appends}
 use Rattle.octet_language.specs.Language.{Each, Language}
 use Rattle.octet_devices.specs.Device.{InputState}
@@ -9,20 +9,46 @@ use Rattle.archive_sets.specs.Selected.{IsReadAt}
 use Rattle.archive_sets.specs.declared.fault.SelectFault.{SelectFault}
 use Rattle.archive_sets.specs.declared.fault.SelectFault.TheVariants.{Write}
 use Rattle.archive_counts.specs.Lines.{AreLinesOf, Line, first_of}
-use Rattle.archive_counts.specs.Texts.{LineText}
+use Rattle.archive_counts.specs.Orders.{order_of}
+use Rattle.archive_counts.specs.Texts.{LineText, RowText}
+use Rattle.archive_counts.specs.Json.{LineJson, RowJson}
+use Rattle.archive_counts.specs.Bars.{BarsText, shown_line, shown_row}
+use Rattle.archive_counts.specs.declared.key.CountKey.{CountKey}
+use Rattle.archive_counts.specs.declared.options.CountForm.{CountForm}
+use Rattle.archive_counts.specs.declared.options.CountForm.TheVariants.{Lines, Json, Bars}
 use Rattle.archive_counts.specs.declared.options.CountOptions.{CountOptions}
+use Rattle.archive_counts.specs.declared.rows.Row.{Row}
+
+-- lines in the form that is asked for
+abbrev pub FormText : CountForm → List CountKey → List Line → Language
+FormText Lines keys ls = Each LineText ls
+FormText Json keys ls = Each (LineJson keys) ls
+FormText (Bars columns) keys ls = BarsText columns (map shown_line ls)
 
 -- the text that the options ask for
 abbrev pub TextFor : CountOptions → List Line → Language
-TextFor options ls = Each LineText (first_of options.top ls)
+TextFor options ls = FormText options.form options.keys.items (first_of options.top ls)
 
--- an archive was read to its end, and of its entries this is the text of the lines
+-- the same of rows
+abbrev pub FormOfRows : CountForm → List CountKey → List Row → Language
+FormOfRows Lines keys rows = Each RowText rows
+FormOfRows Json keys rows = Each (RowJson keys) rows
+FormOfRows (Bars columns) keys rows = BarsText columns (map shown_row rows)
+
+abbrev pub RowsText : CountOptions → List Row → Language
+RowsText options rows = FormOfRows options.form options.keys.items rows
+
+-- the text is that of the lines of these entries
+pub record HasLines (options : CountOptions) (xs : List Entry) (text : List ℕ) : Type 0 where
+  pub lines : List Line
+  pub are : AreLinesOf options.keys.items (order_of options) xs lines
+  pub form : TextFor options lines text
+
+-- an archive was read to its end, and the text is that of its lines
 pub record IsCountOf (options : CountOptions) (d e : InputState) (text : List ℕ) : Type 0 where
   pub xs : List Entry
-  pub lines : List Line
   pub whole : IsWhole d e xs
-  pub are : AreLinesOf options.keys.items xs lines
-  pub form : TextFor options lines text
+  pub lines : HasLines options xs text
 
 -- the lines were written
 pub record Counted (options : CountOptions) (d e : InputState) (taken_old taken_new : Option (List ℕ)) : Type 0 where

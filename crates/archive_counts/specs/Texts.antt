@@ -4,7 +4,8 @@ use Rattle.octet_language.specs.Language.{Language, Each}
 use Rattle.syslog_fields.specs.Canonical.{TimeForm}
 use Rattle.archive_counts.specs.Lines.{Line, count_of, octets_of}
 use Rattle.archive_counts.specs.Tallies.{IsTallyOf}
-use Rattle.archive_counts.specs.Words.{spaced}
+use Rattle.archive_counts.specs.Words.{AreSpaced, spaced}
+use Rattle.archive_counts.specs.declared.key.CountKey.{CountKey}
 use Rattle.archive_counts.specs.declared.rows.Row.{Row}
 
 -- two instants in canonical form, or NILVALUE
@@ -29,16 +30,16 @@ LineText l = PlainLine (count_of l) (octets_of l) l.first l.last (spaced l.words
 -- ---- from rows
 
 -- the row has what the line tells
-pub record IsRowFor (r : Row) (l : Line) : Type 0 where
-  pub words : r.words.items ≡ spaced l.words
+pub record IsRowFor (keys : List CountKey) (r : Row) (l : Line) : Type 0 where
+  pub words : AreSpaced keys l.words r.words.items
   pub tally : IsTallyOf r.tally l.entries
   pub first : r.tally.first ≡ l.first
   pub last : r.tally.last ≡ l.last
 
-abbrev pub AreRowsFor : List Row → List Line → Type 0
-AreRowsFor [] ls = ls ≡ []
-AreRowsFor (r ∷ rs) [] = ⊥
-AreRowsFor (r ∷ rs) (l ∷ ls) = IsRowFor r l × AreRowsFor rs ls
+abbrev pub AreRowsFor : List CountKey → List Row → List Line → Type 0
+AreRowsFor keys [] ls = ls ≡ []
+AreRowsFor keys (r ∷ rs) [] = ⊥
+AreRowsFor keys (r ∷ rs) (l ∷ ls) = IsRowFor keys r l × AreRowsFor keys rs ls
 
 -- the line that a row is told by
 abbrev pub RowText : Row → Language

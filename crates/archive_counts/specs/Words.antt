@@ -1,6 +1,6 @@
 -- The words of a record under the keys that it is counted by.
-use Rattle.std.specs.Prelude.{◌≡◌, ℕ, ℤ, ◌/◌, ◌%◌, List, [], ◌∷◌, ◌++◌, Option, None, Some, codes, take}
-use Rattle.std.specs.List.{flat_map}
+use Rattle.std.specs.Prelude.{◌≡◌, ◌≢◌, ℕ, ℤ, ◌/◌, ◌%◌, List, [], ◌∷◌, Option, None, Some, codes, length, take}
+use Rattle.std.specs.List.{AllByRecursion, flat_map}
 use Rattle.syslog_value.specs.Facilities.{facility_code, facility_name}
 use Rattle.syslog_value.specs.Parts.{Parts}
 use Rattle.syslog_value.specs.Severities.{severity_code, severity_name}
@@ -50,6 +50,16 @@ HasWords keys words e = IsOfRecord (λ r. AreWordsOf keys r words) e.octets
 -- each word behind a space
 abbrev pub spaced : List (List ℕ) → List ℕ
 spaced words = flat_map (λ word. 32 ∷ word) words
+
+-- no space, which is below every octet of a word
+abbrev pub IsFree : ℕ → Type 0
+IsFree x = x ≢ 32
+
+-- the text has these words, one for each key
+pub record AreSpaced (keys : List CountKey) (words : List (List ℕ)) (text : List ℕ) : Type 0 where
+  pub is : text ≡ spaced words
+  pub free : AllByRecursion (AllByRecursion IsFree) words
+  pub count : length words ≡ length keys
 
 -- the words of a record, so written
 abbrev pub WordsText : List CountKey → Parts ℤ → List ℕ → Type 0

@@ -3,13 +3,17 @@
 ghost use Rattle.std.specs.Prelude.{◌≡◌, IfOk, IsErrOf, List, MatchResult};
 ghost use Rattle.archive_text.specs.Entries.{Entry};
 ghost use Rattle.archive_sets.specs.Failures.{TellsFailures};
-ghost use Rattle.archive_counts.specs.Counted.{Counted, Stopped, TextFor};
-ghost use Rattle.archive_counts.specs.Lines.{AreLinesOf, Line, first_of};
+ghost use Rattle.archive_counts.specs.Counted.{Counted, HasLines, RowsText, Stopped};
+ghost use Rattle.syslog_fields.specs.Appending.{Puts};
+ghost use Rattle.archive_counts.specs.Lines.{first_of};
 ghost use Rattle.archive_counts.specs.Tables.{IsTableOf};
 
+use crate::bars::put_bars;
 use crate::counting::Counting;
+use crate::json::put_objects;
 use crate::line::put_rows;
-use crate::options::CountOptions;
+use crate::options::{CountForm, CountOptions};
+use crate::order::order_of;
 use crate::rows::{Row, rank};
 use crate::table::Table;
 use archive_sets::SelectFault;
@@ -26,16 +30,26 @@ fn first_rows(rows: &[Row], top: Option<u64>) -> &[Row]
     }
 }
 
+// Appends the lines of rows in the form that is asked for.
+fn put_form(options: &CountOptions, rows: &[Row], out: &mut Vec<u8>) -> Result<(), AllocError>
+    ensures { Puts (RowsText options.now rows.now) out.old.items out.new.items result }
+{
+    match options.form {
+        CountForm::Lines => put_rows(rows, out),
+        CountForm::Json => put_objects(&options.keys, rows, out),
+        CountForm::Bars { columns } => put_bars(columns, rows, out),
+    }
+}
+
 // The lines of a table.
 fn lines_of(alloc: Global, options: &CountOptions, table: Table) -> Result<Vec<u8>, AllocError>
     ensures { IfOk result (λ text. (xs : List Entry) → IsTableOf options.now.keys.items table xs
-        → (lines : List Line) × AreLinesOf options.now.keys.items xs lines
-        × TextFor options.now lines text.items) }
+        → HasLines options.now xs text.items) }
 {
     let mut rows = table.into_rows()?;
-    rank(&mut rows);
+    rank(order_of(options), &mut rows);
     let mut text = Vec::new(alloc);
-    put_rows(first_rows(&rows, options.top), &mut text)?;
+    put_form(options, first_rows(&rows, options.top), &mut text)?;
     Ok(text)
 }
 

@@ -4,11 +4,14 @@
 //! [`count_stream`] writes a line for each key as the archive is read from a device.
 #![tactic(auto)]
 
+mod bars;
 mod count;
 mod counting;
+mod json;
 mod key;
 mod line;
 mod options;
+mod order;
 mod rows;
 mod table;
 mod tally;

@@ -1,10 +1,12 @@
 //! The rows of a table, in their order.
 
-ghost use Rattle.std.specs.Prelude.{List};
-ghost use Rattle.archive_counts.specs.Rows.{AreRanked, AreRowsOf};
+ghost use Rattle.std.specs.Prelude.{◌≡◌};
+ghost use Rattle.archive_counts.specs.Rows.{AreRanked, AreRowsOf, compare_rows};
 ghost use Rattle.archive_counts.specs.declared.table.Table.{Table};
 
+use crate::order::LineOrder;
 use crate::tally::Tally;
+use std::cmp::Ordering;
 
 /// What is told of the entries with the same words.
 #[derive(Debug, Drop)]
@@ -15,17 +17,21 @@ pub struct Row {
     pub tally: Tally,
 }
 
-/// Puts the rows of a table in order: those of more records first, and those of as many by the
-/// octets of their words.
-pub fn rank(rows: &mut Vec<Row>)
-    ensures rows { (t : Table) → AreRowsOf t rows.old.items → AreRowsOf t rows.new.items }
-    ensures ranked { (t : Table) → AreRowsOf t rows.old.items → AreRanked rows.new.items }
+// Which of two rows comes first.
+fn compare(order: LineOrder, one: &Row, other: &Row) -> Ordering
+    ensures { result ≡ compare_rows order one.now other.now }
 {
-    rows.sort_unstable_by(|one, other| {
-        other
-            .tally
-            .records
-            .cmp(&one.tally.records)
-            .then_with(|| one.words.as_slice().cmp(other.words.as_slice()))
-    });
+    let words = one.words.as_slice().cmp(other.words.as_slice());
+    match order {
+        LineOrder::MostFirst => other.tally.records.cmp(&one.tally.records).then(words),
+        LineOrder::ByWords => words,
+    }
+}
+
+/// Puts the rows of a table in order.
+pub fn rank(order: LineOrder, rows: &mut Vec<Row>)
+    ensures rows { (t : Table) → AreRowsOf t rows.old.items → AreRowsOf t rows.new.items }
+    ensures ranked { (t : Table) → AreRowsOf t rows.old.items → AreRanked order rows.new.items }
+{
+    rows.sort_unstable_by(|one, other| compare(order, one, other));
 }

@@ -1,6 +1,6 @@
 //! Counts of the records of archives.
 
-use crate::support::{Limits, WORKS, reader, see, taken, writer};
+use crate::support::{Limits, WORKS, reader, taken, writer};
 use archive_counts::{CountFault, CountForm, CountKey, CountOptions, count_stream};
 use archive_text::ArchiveFault;
 use std::alloc::Global;
@@ -23,7 +23,23 @@ const DAYS: &[u8] = b"2 96 2024-02-29T23:00:00.000000Z 2024-02-29T23:30:00.00000
 1 22 - - undated
 ";
 
-const MIXED: &[u8] = b"1 48 2024-03-01T00:00:00.000000Z 2024-03-01T00:00:00.000000Z - user.info
+const SEVERITIES: &[u8] =
+    b"1 48 2024-03-01T00:00:00.000000Z 2024-03-01T00:00:00.000000Z user info - 2024-03-01T00:00
+1 48 2024-02-29T23:30:00.000000Z 2024-02-29T23:30:00.000000Z user info a 2024-02-29T23:30
+1 22 - - user notice a undated
+";
+
+const OBJECTS: &[u8] = br#"{"count":1,"octets":25,"first":null,"last":null,"host":"\"","app":null,"proc":"\\"}
+{"count":1,"octets":48,"first":"2024-02-29T23:00:00.000000Z","last":"2024-02-29T23:00:00.000000Z","host":"h","app":"a","proc":null}
+"#;
+
+const HOST_BARS: &[u8] = b"3 ################ h
+1 ######           g
+";
+
+const HOUR_BARS: &[u8] = b"2 ## 2024-02-29T23
+1 #  2024-03-01T00
+1 #  undated
 ";
 
 // keys, the most lines and the form; a text, the limits of its reader and of the writer; and what
@@ -70,6 +86,16 @@ fn see_counts(rt: &(impl Abort + AllocGlobal), rows: &[Row<'_>]) {
     }
 }
 
+const MANY: [CountKey; 4] = [
+    CountKey::Facility,
+    CountKey::Severity,
+    CountKey::App,
+    CountKey::Minute,
+];
+
+// a quotation mark and a backslash in fields
+const ODD: &[u8] = b"22 <13>1 - \" - \\ - - text45 <12>1 2024-02-29T23:00:00.000000Z h a - - - z";
+
 const FINE: (Limits, Limits) = (WORKS, WORKS);
 
 #[test]
@@ -82,6 +108,46 @@ fn each_key_has_a_line(rt: HostRuntime) {
             (&[CountKey::Host], None, CountForm::Lines, ALL, FINE, Ok(()), HOSTS),
             (&[CountKey::Host], None, CountForm::Lines, b"", FINE, Ok(()), b""),
             (&[CountKey::Day], None, CountForm::Lines, ALL, FINE, Ok(()), DAYS),
+            (&[CountKey::Host], Some(1), CountForm::Lines, ALL, FINE, Ok(()), &HOSTS[..64]),
+            (&MANY, Some(3), CountForm::Lines, ALL, FINE, Ok(()), SEVERITIES),
+        ],
+    );
+}
+
+#[test]
+fn each_key_has_an_object(rt: HostRuntime) {
+    let keys = [CountKey::Host, CountKey::App, CountKey::Proc];
+    see_counts(
+        &rt,
+        &[(&keys, None, CountForm::Json, ODD, FINE, Ok(()), OBJECTS)],
+    );
+}
+
+#[test]
+fn each_key_has_a_bar(rt: HostRuntime) {
+    let bars = CountForm::Bars { columns: 20 };
+    let narrow = CountForm::Bars { columns: 18 };
+    see_counts(
+        &rt,
+        &[
+            (&[CountKey::Host], None, bars, ALL, FINE, Ok(()), HOST_BARS),
+            (&[CountKey::Hour], None, narrow, ALL, FINE, Ok(()), HOUR_BARS),
+            (&[], None, bars, b"", FINE, Ok(()), b"0 \n"),
+        ],
+    );
+}
+
+#[test]
+fn nothing_is_written_before_the_end(rt: HostRuntime) {
+    let cut = Err(CountFault::Archive(ArchiveFault::BadFrame { at: 120 }));
+    let unread = Err(CountFault::Read);
+    let unwritten = Err(CountFault::Write { sent: 5 });
+    see_counts(
+        &rt,
+        &[
+            (&[], None, CountForm::Lines, &ALL[..120], FINE, cut, b""),
+            (&[], None, CountForm::Lines, ALL, ((22, 9), WORKS), unread, b""),
+            (&[], None, CountForm::Lines, ALL, (WORKS, (5, 9)), unwritten, &TOGETHER[..5]),
         ],
     );
 }
