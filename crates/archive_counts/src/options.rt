@@ -1,49 +1,25 @@
-//! What is counted.
+//! What is counted, and how that is written.
 
-/// A field or a time by which records are counted.
-#[derive(Clone, Copy, Debug, PartialEq, Eq)]
-pub enum CountKey {
-    /// HOSTNAME.
-    Host,
-    /// APP-NAME.
-    App,
-    /// PROCID.
-    Proc,
-    /// MSGID.
-    Msgid,
-    /// The facility.
-    Facility,
-    /// The severity.
-    Severity,
-    /// The day of the time.
-    Day,
-    /// Its hour.
-    Hour,
-    /// Its minute.
-    Minute,
-}
+use crate::key::CountKey;
 
-/// How counts are written.
+/// How a line is written.
 #[derive(Clone, Copy, Debug, PartialEq, Eq)]
 pub enum CountForm {
-    /// One line each.
+    /// `COUNT OCTETS FIRST LAST KEY..`
     Lines,
-    /// A line of JSON each.
+    /// An object of JSON (RFC 8259).
     Json,
-    /// With bars.
-    Bars {
-        /// How many columns.
-        columns: u16,
-    },
+    /// A bar that is as long as the count is large, within so many columns.
+    Bars { columns: u16 },
 }
 
-/// What is counted, and how it is written.
-#[derive(Debug, PartialEq, Eq, Drop)]
+/// What is counted, and how that is written.
+#[derive(Debug, Drop)]
 pub struct CountOptions {
-    /// The keys.
+    /// What records are counted by; without keys all are counted together.
     pub keys: Vec<CountKey>,
-    /// How many lines at most.
+    /// How many lines are written at most; None for all.
     pub top: Option<u64>,
-    /// The form.
+    /// How they are written.
     pub form: CountForm,
 }

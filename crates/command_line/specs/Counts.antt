@@ -6,8 +6,8 @@ use Rattle.clap.specs.Walk.{Row, Text, first_of}
 use Rattle.option_values.specs.Values.{all_given}
 use Rattle.archive_counts.specs.declared.options.CountForm.{CountForm}
 use Rattle.archive_counts.specs.declared.options.CountForm.TheVariants as form
-use Rattle.archive_counts.specs.declared.options.CountKey.{CountKey}
-use Rattle.archive_counts.specs.declared.options.CountKey.TheVariants as key
+use Rattle.archive_counts.specs.declared.key.CountKey.{CountKey}
+use Rattle.archive_counts.specs.declared.key.CountKey.TheVariants as key
 
 -- the key with this name
 abbrev pub key_of : Text → Option CountKey

@@ -13,7 +13,7 @@ use Rattle.collect_engine.specs.declared.collect_words.CollectWords.{CollectWord
 use Rattle.collect_engine.specs.declared.collect_words.Transport.{Transport}
 use Rattle.collect_engine.specs.declared.collect_words.Transport.TheVariants as transport
 use Rattle.archive_counts.specs.declared.options.CountForm.{CountForm}
-use Rattle.archive_counts.specs.declared.options.CountKey.{CountKey}
+use Rattle.archive_counts.specs.declared.key.CountKey.{CountKey}
 use Rattle.archive_tree.specs.declared.head.TreeHead.{TreeHead}
 use Rattle.command_line.specs.CommandLine.{line_app}
 use Rattle.command_line.specs.Counts.{form_by, keys_in}

@@ -27,7 +27,7 @@ use Rattle.command_line.specs.declared.words.WordsFault.TheVariants.{Usage, Memo
 use Rattle.send_engine.specs.Sending.{RanSend}
 use Rattle.proof_engine.specs.Rooted.{RanRoot}
 use Rattle.archive_counts.specs.declared.options.CountForm.{CountForm}
-use Rattle.archive_counts.specs.declared.options.CountKey.{CountKey}
+use Rattle.archive_counts.specs.declared.key.CountKey.{CountKey}
 use Rattle.archive_counts.specs.declared.options.CountOptions.{CountOptions}
 use Rattle.set_engine.specs.Counting.{RanCount}
 use Rattle.set_engine.specs.Digesting.{RanDigest}

@@ -87,7 +87,7 @@ unfolding print_from
 members_none true = refl
 members_none false = refl
 
-member_text : (c : Bool) (k : List ℕ) (j : Json) (ms : Members)
+pub member_text : (c : Bool) (k : List ℕ) (j : Json) (ms : Members)
     → members_text c (member k j ms) ≡ comma_if c ++ ((quoted k ++ 58 ∷ []) ++ (value_text j ++ members_text true ms))
 unfolding print_from
 member_text true k j ms = ap (λ (u : List ℕ). 44 ∷ ((quoted k ++ 58 ∷ []) ++ u)) (value_then false j (members_tokens ms))
@@ -102,7 +102,7 @@ pub member_more : (k n : List ℕ) (j : Json) (v : List ℕ) (ms : Members) (res
 member_more k n j v ms rest d e f = member_text true k j ms ∙ ap (λ (u : List ℕ). u ++ (value_text j ++ members_text true ms)) d
     ∙ ap (λ (u : List ℕ). n ++ (u ++ members_text true ms)) e ∙ ap (λ (u : List ℕ). n ++ (v ++ u)) f
 
-object_text : (ms : Members) → value_text (object ms) ≡ 123 ∷ members_text false ms
+pub object_text : (ms : Members) → value_text (object ms) ≡ 123 ∷ members_text false ms
 unfolding print_from
 object_text ms = refl
 
@@ -114,7 +114,7 @@ pub string_value : (s : List ℕ) → value_text (string s) ≡ quoted s
 unfolding print_from
 string_value s = append-nil (quoted s)
 
-number_value : (s : List ℕ) → value_text (number s) ≡ s
+pub number_value : (s : List ℕ) → value_text (number s) ≡ s
 unfolding print_from
 number_value s = append-nil s
 

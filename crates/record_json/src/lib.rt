@@ -9,6 +9,7 @@ mod line;
 mod stops;
 mod view_line;
 
+pub use escapes::put_string;
 pub use law::{a_line_has_one_line_feed, a_line_is_its_object, lines_are_injective};
 pub use line::{LentParts, put_lent_line};
 pub use view_line::put_json_line;

@@ -2,3 +2,4 @@ pub mod Ended
 pub mod Selecting
 pub mod Combining
 pub mod Digesting
+pub mod Counting

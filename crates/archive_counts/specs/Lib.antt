@@ -1,0 +1,11 @@
+pub mod Words
+pub mod Tallies
+pub mod Orders
+pub mod Lines
+pub mod Tables
+pub mod Rows
+pub mod Texts
+pub mod Json
+pub mod Bars
+pub mod Counting
+pub mod Counted
