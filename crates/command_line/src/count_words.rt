@@ -102,7 +102,7 @@ fn form_by(json: bool, bars: bool) -> Result<CountForm, Refusal<'static>>
 // The request of `count` with these keys.
 fn with_keys<'a>(keys: Vec<CountKey>, matches: &ArgMatches<'a>) -> Result<Request<'a>, Refusal<'a>>
     ensures { option_map asked_by (result_ok result)
-        ≡ count_of keys.entry.items (rows_of (found_of matches.now)) }
+        ≡ count_of keys.items (rows_of (found_of matches.now)) }
 {
     let top = optional_number(matches, &TOP)?;
     let form = form_by(

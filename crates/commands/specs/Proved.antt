@@ -3,8 +3,8 @@ use Rattle.std.specs.Prelude.{◌≡◌, ◌⊎◌, ℕ, List, codes}
 use Rattle.octet_devices.specs.Device.{InputState}
 use Rattle.driver.specs.Devices.{Devices}
 use Rattle.archive_tree.specs.declared.head.TreeHead.{TreeHead}
-use Rattle.proof_engine.specs.Proving.{RanProve}
-use Rattle.proof_engine.specs.Confirming.{RanConfirm}
+use Rattle.proof_engine.specs.Proved.{RanProve}
+use Rattle.proof_engine.specs.Confirmed.{RanConfirm}
 use Rattle.commands.specs.Stored.{LacksFile, Opens, RanOut, Stored}
 
 -- a file of records is opened and read beside the input, as this says of its states; a name without a file is told

@@ -1,5 +1,6 @@
-use Rattle.std.proofs.Common.{◌∙◌, [], ◌∷◌, Some, ap, sym}
-use Rattle.option_values.proofs.GivenLemmas.{behind_nothing, given_more, given_none}
+use Rattle.std.proofs.Common.{◌≡◌, ◌∙◌, [], ◌∷◌, Some, ap, map, rules, sym}
+use Rattle.option_values.specs.Values.{all_given}
+use Rattle.option_values.proofs.GivenLemmas.{behind, behind_nothing, given_more, given_none}
 use Rattle.command_line.specs.Counts.{key_of}
 use Rattle.command_line.proofs.count_words.keys_named.Goals as goal
 
@@ -15,4 +16,7 @@ loop-name-preserved c =
     ∙ ap Some (sym c.in_ok-push.ensures.items)
 
 pub returns : goal.returns
-returns c = ?
+returns c =
+    let all : behind [] (all_given (map (λ s. key_of s.now) c.args.names.now)) ≡ Some c.loop-name.keys.items =
+    search rules in
+    sym (behind_nothing (all_given (map (λ s. key_of s.now) c.args.names.now)) ∙ all)
