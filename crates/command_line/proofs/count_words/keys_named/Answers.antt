@@ -1,4 +1,5 @@
-use Rattle.std.proofs.Common.{◌≡◌, ◌∙◌, [], ◌∷◌, Some, ap, map, rules, sym}
+use Rattle.std.proofs.Common.{◌≤◌, ◌∙◌, [], ◌∷◌, Some, ap, length, map, rules, sym}
+use Rattle.std.proofs.lemmas.List.{take_all}
 use Rattle.option_values.specs.Values.{all_given}
 use Rattle.option_values.proofs.GivenLemmas.{behind, behind_nothing, given_more, given_none}
 use Rattle.command_line.specs.Counts.{key_of}
@@ -17,6 +18,9 @@ loop-name-preserved c =
 
 pub returns : goal.returns
 returns c =
-    let all : behind [] (all_given (map (λ s. key_of s.now) c.args.names.now)) ≡ Some c.loop-name.keys.items =
-    search rules in
-    sym (behind_nothing (all_given (map (λ s. key_of s.now) c.args.names.now)) ∙ all)
+    let names = c.args.names.now in
+    let done : length names ≤ c.loop-name.name-index = search rules in
+    let all = all_given (map (λ s. key_of s.now) names) in
+    sym (behind_nothing all
+    ∙ ap (λ few. behind [] (all_given (map (λ s. key_of s.now) few))) (sym (take_all c.loop-name.name-index names done))
+    ∙ c.loop-name.invariant)
