@@ -1,13 +1,12 @@
 -- A step that may come is one of a peer that may send.
-use Rattle.std.proofs.Common.{◌≡◌, ℕ, Bool, true, Some, None}
+use Rattle.std.proofs.Common.{◌≡◌, true, Some, None}
 use Rattle.std.specs.Net.Socket.{socket_ip}
-use Rattle.std.specs.Prelude.{◌&&◌, nat_lt, not}
+use Rattle.std.specs.Prelude.{nat_lt, not}
 use Rattle.std.specs.declared.net.socket_addr.SocketAddr.{SocketAddr}
 use Rattle.std.proofs.lemmas.Bool.{and_parts, not-true}
 use Rattle.std.proofs.lemmas.Bool.Decides.{not_from_Decides}
 use Rattle.peer_rules.specs.Addresses.{number_of}
-use Rattle.peer_rules.specs.AllowLists.{MaySend, may_send}
-use Rattle.peer_rules.specs.declared.network.Network.{Network}
+use Rattle.peer_rules.specs.AllowLists.{MaySend}
 use Rattle.peer_rules.proofs.Deciding.{may_send_decides}
 use Rattle.socket_source.specs.Steps.{IsAllowed, Standing, is_peer, may_come}
 use Rattle.socket_source.specs.declared.step.ServerStep.{ServerStep}

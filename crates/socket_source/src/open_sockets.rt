@@ -1,8 +1,10 @@
 //! The sockets that are listened on, and those that are open.
-ghost use Rattle.std.specs.Prelude.{◌≡◌, ◌<◌, ◌≤◌, true, length, vec_len, IfNone, IfSome, IsSome, None};
+ghost use Rattle.std.specs.Prelude.{◌≡◌, ◌<◌, ◌≤◌, false, true, length, vec_len, IfNone, IfSome, IsSome, None};
 ghost use Rattle.socket_source.specs.Sockets.{IsAt, IsAtOrDisplaced, IsOf};
-ghost use Rattle.socket_source.specs.Steps.{Becomes, IfLawful, IsLawful, without_open};
+ghost use Rattle.peer_rules.specs.AllowLists.{networks_of};
+ghost use Rattle.socket_source.specs.Steps.{Becomes, IfLawful, IsLawful, is_peer, without_open};
 ghost use Rattle.socket_source.specs.Turns.{IsWithinShare};
+ghost use Rattle.socket_source.specs.declared.step.ServerStep.TheVariants.{NotAllowed};
 
 use crate::allowed::is_peer;
 use crate::bound::{Bound, accept_from, receive};
@@ -101,6 +103,8 @@ impl OpenSockets {
         requires { listener < vec_len self.old.listeners }
         ensures lawful { IsLawful (standing_of self.old) (standing_of self.new) 0 result }
         ensures at { IsAt listener result }
+        ensures elsewhere { is_peer (networks_of self.old.allowed) accepted.1 ≡ false
+            → result ≡ NotAllowed listener accepted.1 }
     {
         let (stream, peer) = accepted;
         if !is_peer(&self.allowed, peer) {
@@ -127,8 +131,10 @@ impl OpenSockets {
         }
     }
 
-    // Whether another connection has to end before one of this peer can be opened.
-    fn lacks_place(&self, peer: SocketAddr) -> bool {
+    // Whether another connection has to end before one of this peer, who may send, can be opened.
+    fn lacks_place(&self, peer: SocketAddr) -> bool
+        ensures { result ≡ true → is_peer (networks_of self.now.allowed) peer ≡ true }
+    {
         is_peer(&self.allowed, peer) && self.connections.lacks_place(peer_number(peer))
     }
 
@@ -145,6 +151,9 @@ impl OpenSockets {
         requires { listener < vec_len self.old.listeners }
         ensures lawful { IsLawful (standing_of self.old) (standing_of self.new) 0 result }
         ensures at { IsAtOrDisplaced listener result }
+        // No connection ends for one whose peer may not send.
+        ensures elsewhere { is_peer (networks_of self.old.allowed) accepted.1 ≡ false
+            → result ≡ NotAllowed listener accepted.1 }
     {
         if !self.lacks_place(accepted.1) {
             return self.admit(listener, framing, accepted, now);
