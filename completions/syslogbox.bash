@@ -36,8 +36,8 @@ _syslogbox_options() {
             echo "--trim --legacy --zone --dialect --help"
             ;;
         serve)
-            echo "--udp --counted --lf --unix --inherited --connections --per-peer --idle --commit --checkpoint"
-            echo "--until-eof --trim --legacy --zone --dialect --help"
+            echo "--udp --counted --lf --unix --inherited --allow --connections --per-peer --idle --commit"
+            echo "--checkpoint --until-eof --trim --legacy --zone --dialect --help"
             ;;
     esac
 }
@@ -54,8 +54,8 @@ _syslogbox_value() {
         "select --message" | "select --host-like" | "select --app-like" | "select --not-host" | "select --not-app" | \
         "select --not-message" | "read --from" | "read --to" | "send --host" | "send --app" | "send --proc" | \
         "send --msgid" | "send --micros" | "collect --legacy" | "collect --zone" | "serve --udp" | \
-        "serve --counted" | "serve --lf" | "serve --connections" | "serve --per-peer" | "serve --idle" | \
-        "serve --commit" | "serve --checkpoint" | "serve --legacy" | "serve --zone")
+        "serve --counted" | "serve --lf" | "serve --allow" | "serve --connections" | "serve --per-peer" | \
+        "serve --idle" | "serve --commit" | "serve --checkpoint" | "serve --legacy" | "serve --zone")
             echo "text"
             ;;
         "show --dialect" | "check --dialect" | "convert --dialect" | "archive --dialect" | "collect --dialect" | \
