@@ -1,12 +1,11 @@
 -- What is parsed is the network that the text writes.
-use Rattle.std.proofs.Common.{◌≡◌, ◌≢◌, ◌∙◌, ℕ, ◌-◌, ◌*◌, ◌/◌, ◌%◌, ◌^◌, ◌<◌, ◌≤◌, Bool, true, false, List, Option, Some, None}
-use Rattle.std.proofs.Common.{Err, Ok, Result, ap, arith, inl, inr, length, refl, subst, sym}
-use Rattle.std.specs.Prelude.{◌==◌, ◌&&◌, if◌then◌else◌, nat_le, nat_lt, option_and_then, option_map}
-use Rattle.std.specs.List.{position_or_len}
+use Rattle.std.proofs.Common.{◌≡◌, ◌∙◌, ℕ, ◌-◌, ◌*◌, ◌/◌, ◌%◌, ◌^◌, Bool, true, Option, Some, None}
+use Rattle.std.proofs.Common.{Err, Ok, Result, ap, arith, inl, inr, refl, subst, sym}
+use Rattle.std.specs.Prelude.{◌==◌, ◌&&◌, nat_le, option_and_then, option_map}
 use Rattle.std.specs.Result.{result_ok}
-use Rattle.std.proofs.lemmas.Bool.{and_from, and_parts, cond-false, cond-true, eq-eqb, eqb-false, eqb-true, false_from_ne_true}
+use Rattle.std.proofs.lemmas.Bool.{and_from, and_parts, cond-false, cond-true, eq-eqb, eqb-true, false_from_ne_true}
 use Rattle.std.proofs.lemmas.Bool.{le-leb, leb-true, lt-ltb, ltb-true}
-use Rattle.std.proofs.lemmas.Nat.{div-add-mod', pow_pos}
+use Rattle.std.proofs.lemmas.Nat.{div-add-mod'}
 use Rattle.std.proofs.lemmas.Str.Parse.{IsNumeralModel, numerals_by_value, tells_all_ascii_digits}
 use Rattle.std.proofs.NetLemmas.Theorems.{IsIpText_unique}
 use Rattle.std.specs.Net.Grammar.{IsIpText}
@@ -14,8 +13,8 @@ use Rattle.std.specs.Str.{all_ascii_digits}
 use Rattle.std.specs.Str.Parse.{digits_value}
 use Rattle.std.specs.declared.net.ip_addr.IpAddr.{IpAddr}
 use Rattle.clap.specs.Walk.{Text}
-use Rattle.peer_rules.specs.Addresses.{full_length, number_of, prefix, width_of}
-use Rattle.peer_rules.specs.Networks.{IsAround, Makes}
+use Rattle.peer_rules.specs.Addresses.{full_length, number_of, width_of}
+use Rattle.peer_rules.specs.Networks.{Makes}
 use Rattle.peer_rules.specs.NetworkTexts.{HasSlash, MakesNetwork, Reads, ReadsLength, address_part, length_part}
 use Rattle.peer_rules.specs.declared.network.Network.{Network}
 use Rattle.peer_rules.specs.declared.network_fault.NetworkFault.{NetworkFault}
@@ -23,7 +22,7 @@ use Rattle.peer_rules.specs.declared.network_fault.NetworkFault.TheVariants.{Add
 use Rattle.option_values.specs.Numbers.{number_in}
 use Rattle.option_values.specs.TimeDecision.{Decided}
 use Rattle.option_values.proofs.NumberLemmas.{number_no, number_yes}
-use Rattle.server_words.specs.Networks.{NetworkAsked, decided_ip, ip_in, ip_where, length_in, network_asked, network_from, network_in}
+use Rattle.server_words.specs.Networks.{decided_ip, ip_in, ip_where, length_in, network_asked, network_from, network_in}
 
 -- ---- addresses
 

@@ -1,5 +1,5 @@
 -- Whom a server is asked to take records from.
-use Rattle.std.proofs.Common.{◌≡◌, ◌∙◌, ℕ, List, [], ◌∷◌, ◌++◌, Option, Some, None, append-nil, inl, inr, refl, sym, ap, subst}
+use Rattle.std.proofs.Common.{◌≡◌, ◌∙◌, ℕ, List, [], ◌∷◌, ◌++◌, Option, Some, None, append-nil, inl, inr, refl, sym, subst}
 use Rattle.std.proofs.Common.{lit≤}
 use Rattle.std.proofs.lemmas.Option.{none-some}
 use Rattle.std.proofs.NetLemmas.Ipv4.{read_ipv4_complete, read_ipv4_sound}
@@ -8,7 +8,7 @@ use Rattle.std.proofs.NetLemmas.Options.{same_parts}
 use Rattle.std.specs.Net.Addr.{ipv4_octets, ipv6_segments}
 use Rattle.std.specs.Net.Grammar.{IsIpText, IsIpv4Text, IsIpv6Text}
 use Rattle.std.specs.Net.Reader.{Read, read_ipv4, read_ipv6}
-use Rattle.std.specs.Prelude.{◌-◌, ◌%◌, ◌^◌, ◌==◌, ◌&&◌, Bool, codes, if◌then◌else◌, length, map, nat_le, nat_lt, option_and_then}
+use Rattle.std.specs.Prelude.{◌-◌, ◌%◌, ◌^◌, ◌==◌, ◌&&◌, codes, if◌then◌else◌, length, map, nat_le, nat_lt, option_and_then}
 use Rattle.std.specs.Prelude.{unwrap_or}
 use Rattle.std.specs.List.{position_or_len}
 use Rattle.std.specs.declared.net.ip_addr.IpAddr.{IpAddr}
