@@ -43,8 +43,8 @@ _syslogbox_options() {
             echo "--trim --legacy --zone --dialect --help"
             ;;
         serve)
-            echo "--udp --counted --lf --unix --inherited --connections --per-peer --idle --commit --checkpoint"
-            echo "--until-eof --trim --legacy --zone --dialect --help"
+            echo "--udp --counted --lf --unix --inherited --allow --connections --per-peer --idle --commit"
+            echo "--checkpoint --until-eof --trim --legacy --zone --dialect --help"
             ;;
     esac
 }
@@ -63,7 +63,7 @@ _syslogbox_value() {
         "follow --to" | "follow --host" | "follow --app" | "follow --proc" | "follow --msgid" | "follow --id" | \
         "follow --message" | "follow --host-like" | "follow --app-like" | "follow --not-host" | "follow --not-app" | \
         "follow --not-message" | "send --host" | "send --app" | "send --proc" | "send --msgid" | "send --micros" | \
-        "collect --legacy" | "collect --zone" | "serve --udp" | "serve --counted" | "serve --lf" | \
+        "collect --legacy" | "collect --zone" | "serve --udp" | "serve --counted" | "serve --lf" | "serve --allow" | \
         "serve --connections" | "serve --per-peer" | "serve --idle" | "serve --commit" | "serve --checkpoint" | \
         "serve --legacy" | "serve --zone")
             echo "text"

@@ -85,6 +85,7 @@ complete -c syslogbox -n "__fish_seen_subcommand_from serve" -l counted -x -d 'A
 complete -c syslogbox -n "__fish_seen_subcommand_from serve" -l lf -x -d 'Accept connections on ADDR:PORT whose frames are lines'
 complete -c syslogbox -n "__fish_seen_subcommand_from serve" -l unix -r -F -d 'Receive datagrams on a socket at this path'
 complete -c syslogbox -n "__fish_seen_subcommand_from serve" -l inherited -x -a 'udp counted lf' -d 'Use the next inherited descriptor, from 3 on, as a socket of this kind'
+complete -c syslogbox -n "__fish_seen_subcommand_from serve" -l allow -x -d 'Take records only from addresses in NET'
 complete -c syslogbox -n "__fish_seen_subcommand_from serve" -l connections -x -d 'Connections that may be open at once'
 complete -c syslogbox -n "__fish_seen_subcommand_from serve" -l per-peer -x -d 'Connections that one address may have open at once'
 complete -c syslogbox -n "__fish_seen_subcommand_from serve" -l idle -x -d 'Seconds without an octet after which a connection is closed'

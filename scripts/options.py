@@ -36,6 +36,11 @@ class Option:
         return self.form in ("Positional", "Several")
 
     @property
+    def is_listener(self):
+        """Whether it is one of those of which `serve` needs one at least."""
+        return self.form == "List" and self.kind != "Network"
+
+    @property
     def has_value(self):
         return self.form != "Flag"
 
@@ -251,15 +256,15 @@ def synopsis(command):
     for option in command[2]:
         if option.is_placed:
             lines.append(f".Ar {option.value}{' ...' if option.form == 'Several' else ''}")
-        elif option.form == "List":
+        elif option.is_listener:
             lines += [] if ".Ar listener ..." in lines else [".Ar listener ..."]
         else:
-            lines.append(f".Op {roff_flag(option)}")
+            lines.append(f".Op {roff_flag(option)}{' ...' if option.form == 'List' else ''}")
     return lines
 
 
 def thousands(text):
-    return re.sub(r"\d{4,}", lambda it: f"{int(it[0]):,}", text)
+    return re.sub(r"\d{4,}(?![\d:])", lambda it: f"{int(it[0]):,}", text)
 
 
 def default_of(option):
@@ -295,9 +300,9 @@ def lists(commands):
     own = [it for it in by["serve"][2] if not it.is_placed]
     own = [it for it in own if it not in by["collect"][2]]
     wanted = {f"synopsis of {name}": synopsis(command) for name, command in by.items()}
-    wanted["listeners of serve"] = roff_list([it for it in own if it.form == "List"])
-    wanted["options of serve"] = roff_list([it for it in own if it.form != "List"])
-    wanted["table of serve"] = table([it for it in own if it.form != "List"])
+    wanted["listeners of serve"] = roff_list([it for it in own if it.is_listener])
+    wanted["options of serve"] = roff_list([it for it in own if not it.is_listener])
+    wanted["table of serve"] = table([it for it in own if not it.is_listener])
     return wanted
 
 

@@ -100,6 +100,7 @@ TAKES = {
     "--connections": "a number from 1 to 16384", "--per-peer": "a number from 1 to 16384",
     "--idle": "a number from 1 to 31536000", "--commit": "a number from 0 to 3600000",
     "--checkpoint": "a number from 1 to 2048", "--unix": "the name of a file",
+    "--allow": "an address or a network, such as 192.0.2.1, 192.0.2.0/24 or 2001:db8::/32",
     **{option: f"1 to {most} printable ASCII characters without spaces, or - for none"
        for option, most in [("--host", 255), ("--app", 48), ("--proc", 128), ("--msgid", 32), ("--not-host", 255), ("--not-app", 48)]},
     "--id": '1 to 32 printable ASCII characters without spaces, =, ] and "',
@@ -114,6 +115,7 @@ REFUSED_OF_SERVE = {
     "--connections": ["0", "16385", "", "x", "+1", "1.5", "18446744073709551617"], "--idle": ["0", "31536001", "never"],
     "--commit": ["3600001", "1s"], "--checkpoint": ["0", "2049", "64M"],
     "--per-peer": ["0", "16385"], "--legacy": ["0", "9999"],
+    "--allow": ["", "localhost", "192.0.2", "192.0.2.0/", "192.0.2.0/33", "192.0.2.0/+24", "::/129", "192.0.2.0/24,::/0"],
     "--zone": ["E2400", "0000"], "--dialect": ["rfc3164", ""],
 }
 
@@ -202,6 +204,8 @@ WORDS = [
     ("too many connections", ["serve", ".", "--unix", "s", "--connections", "16385"], HELLO, 2, b"", invalid("--connections", 16385)),
     ("more connections of an address than in all", ["serve", ".", "--unix", "s", "--per-peer", "20", "--connections", "10"], HELLO, 2, b"",
      b"error: the value of --per-peer is greater than that of --connections\n"),
+    ("a network with host bits", ["serve", ".", "--unix", "s", "--allow", "::/0", "--allow", "192.0.2.1/24"], HELLO, 2, b"",
+     b"error: invalid value '192.0.2.1/24' for --allow: bits behind the prefix are set; the network is 192.0.2.0/24\n"),
     ("idle for no second", ["serve", ".", "--unix", "s", "--idle", "0"], HELLO, 2, b"", invalid("--idle", 0)),
     ("a commit after more than an hour", ["serve", ".", "--unix", "s", "--commit", "3600001"], HELLO, 2, b"", invalid("--commit", 3600001)),
     ("the first of two values that are refused", ["serve", ".", "--idle", "0", "--udp", "514"], HELLO, 2, b"", invalid("--udp", 514)),

@@ -1,5 +1,5 @@
 """`serve` over real sockets: each kind of listener, frames that are refused, wrong senders, limits, ends, counts,
-and its stores (serving_stores.py).
+who may send (serving_peers.py), and its stores (serving_stores.py).
 
 What a store holds is read by `read`, and has to be what `archive` makes of the octets that were sent. Each test waits
 until something holds, and never for a time.
@@ -15,6 +15,7 @@ from random import Random
 
 from cases.mutated import mutations
 from cases.rows import A, LEGACY_2001, Y, Z, entries
+from cases.serving_peers import ALLOWED
 from cases.serving_stores import KEPT, Sender, segments_of
 from lib import reference
 from lib.loopback import HERE, NEVER, free_port, kind_of
@@ -714,7 +715,7 @@ def stopped_by_signal(runs):
 TESTS = [listeners, families, inherited, not_inherited, streams, datagrams, at_once, cut_over, readings, wrong, endless,
          numbers, too_many, idle, few_descriptors, commits, statuses, open_ends, busy_end, signals, stopped_by_signal, inputs,
          no_notes, counts, managed, not_managed,
-         *KEPT]
+         *ALLOWED, *KEPT]
 
 
 def serving(program, results):

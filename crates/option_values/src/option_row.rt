@@ -1,5 +1,6 @@
 //! What the table says of an option, and the text for a value that it does not take.
 
+use peer_rules::{Network, NetworkFault};
 use std::alloc::{AllocError, Global};
 
 /// How an option is given.
@@ -50,6 +51,8 @@ pub enum Kind {
     Time,
     /// An address and a port.
     Address,
+    /// An address, or a network as an address, a slash and the length of its prefix.
+    Network,
     /// The name of a facility.
     Facility,
     /// One of a few words, which the text lists.
@@ -101,6 +104,15 @@ pub enum Refusal<'a> {
         kind: Kind,
         /// The value.
         text: &'a str,
+    },
+    /// A network has bits behind its prefix.
+    HostBits {
+        /// The option.
+        option: OptionRow,
+        /// The value.
+        text: &'a str,
+        /// The network that has the address.
+        network: Network,
     },
     /// A value is missing that has to be there.
     Missing,
@@ -161,6 +173,10 @@ fn expected(alloc: Global, kind: Kind) -> Result<String, AllocError> {
             alloc,
             "an address and a port, such as 127.0.0.1:514 or [::1]:514",
         ),
+        Kind::Network => String::from_str(
+            alloc,
+            "an address or a network, such as 192.0.2.1, 192.0.2.0/24 or 2001:db8::/32",
+        ),
         Kind::Facility => String::from_str(
             alloc,
             "kern, user, mail, daemon, auth, syslog, lpr, news, uucp, cron, authpriv, ftp, ntp, \
@@ -199,6 +215,15 @@ pub fn refusal_text(alloc: Global, refusal: Refusal<'_>) -> Result<String, Alloc
             format!(in alloc;
                 "error: invalid value '{text}' for {dashes}{name}: expected {expected}\n"
             )
+        }
+        Refusal::HostBits {
+            option,
+            text,
+            network,
+        } => {
+            let name = option.name;
+            let fault = NetworkFault::HostBits(network);
+            format!(in alloc; "error: invalid value '{text}' for --{name}: {fault}\n")
         }
         Refusal::Missing => String::from_str(alloc, "error: a value is missing\n"),
         Refusal::NoListener => String::from_str(

@@ -560,6 +560,15 @@ pub const INHERITED: OptionRow = OptionRow {
     help: "Use the next inherited descriptor, from 3 on, as a socket of this kind: udp, counted or lf",
 };
 
+/// `--allow` of `serve`.
+pub const ALLOW: OptionRow = OptionRow {
+    name: "allow",
+    form: Form::List,
+    value: "net",
+    kind: Kind::Network,
+    help: "Take records only from addresses in NET, such as 192.0.2.0/24 or 2001:db8::/32 [default: all]",
+};
+
 /// `--connections` of `serve`.
 pub const CONNECTIONS: OptionRow = OptionRow {
     name: "connections",
@@ -831,6 +840,7 @@ pub const SERVE_COMMAND: CommandRow = CommandRow {
         LF,
         UNIX,
         INHERITED,
+        ALLOW,
         CONNECTIONS,
         PER_PEER,
         IDLE,

@@ -11,7 +11,7 @@ use Rattle.socket_source.specs.declared.step.ServerStep.{ServerStep}
 use Rattle.serve_engine.specs.Events.{Manner, event_of, manner_of}
 use Rattle.serve_engine.specs.Intakes.{IsCommitted, StandsBy}
 use Rattle.serve_engine.specs.Keepings.{Kept, StaysCommitted}
-use Rattle.serve_engine.specs.Refusals.{KeepsSilent}
+use Rattle.serve_engine.specs.Refusals.{KeepsSilent, with_peer}
 use Rattle.serve_engine.specs.Servers.{AreTurns, Around, DoneRun, GoOn, IsGiven, IsTurn, Made, Place}
 use Rattle.serve_engine.specs.Servers.{RunsTo, ServesRun, ServesTurn, around_after, events_of, kept_after, rests}
 use Rattle.serve_engine.specs.Serving.{CommitsAll, GivesStep, HoldsReceived, IfCommitted, IfSettled, IsCause, IsCommitTurn}
@@ -97,7 +97,7 @@ pub stepped : {S K : Type 0} (entries : S → List Entry) (stands : K → Kept �
     → ServesStep entries stands a.intake b.intake s (octets_of s buf) lost b.around.full t a.around.refusals
     b.around.refusals
     → GivesStep a.around.source b.around.source (given_of s buf) lost
-    → IfNone (event_of s (octets_of s buf)) (KeepsSilent (asks_commit s) a.around.refusals b.around.refusals)
+    → IfNone (event_of s (octets_of s buf)) (KeepsSilent (asks_commit s) (with_peer s a.around.refusals) b.around.refusals)
     → manner_of b.intake.collector ≡ manner_of a.intake.collector
     → (asks_commit s ≡ false → b.around.full ≡ a.around.full) → IsStepTurn s t
     → (is_last s ≡ true → t ≡ On → b.around.full ≡ true) → ServesTurn entries stands t a b

@@ -28,6 +28,7 @@ no_counts = record {
   broken = 0;
   dropped = 0;
   quiet = 0;
+  not_allowed = 0;
 }
 
 -- a count with so many more, which stays at the largest value
@@ -57,6 +58,10 @@ broken_counted c = record c { broken = count_up c.broken 1 }
 -- no more is counted than lines and frames that were dropped, and lines that were quiet
 abbrev pub CountsDropped : ServeCounts → ServeCounts → Type 0
 CountsDropped old new = new ≡ record old { dropped = new.dropped; quiet = new.quiet }
+
+-- with a datagram or a connection of a peer that may not send
+abbrev pub not_allowed_counted : ServeCounts → ServeCounts
+not_allowed_counted c = record c { not_allowed = count_up c.not_allowed 1 }
 
 -- a line more is quiet
 abbrev pub quiet_counted : ServeCounts → ServeCounts

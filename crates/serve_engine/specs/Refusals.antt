@@ -11,8 +11,10 @@ use Rattle.syslog_collect.specs.Observers.{HearsPiece}
 use Rattle.syslog_collect.specs.declared.outcome.Outcome.{Outcome}
 use Rattle.syslog_collect.specs.declared.outcome.Outcome.TheVariants.{New, Held, Refused, RefusedLegacy, TooLong}
 use Rattle.syslog_collect.specs.declared.outcome.Outcome.TheVariants.{BadCount}
+use Rattle.socket_source.specs.declared.step.ServerStep.{ServerStep}
+use Rattle.socket_source.specs.declared.step.ServerStep.TheVariants as step
 use Rattle.serve_engine.specs.Counts.{CountsBroken, CountsDropped, CountsEnd, CountsOpening, CountsSilent, broken_counted}
-use Rattle.serve_engine.specs.Counts.{counted, octets_counted}
+use Rattle.serve_engine.specs.Counts.{counted, not_allowed_counted, octets_counted}
 use Rattle.serve_engine.specs.Events.{IsAccepted, Manner}
 use Rattle.serve_engine.specs.declared.counts.ServeCounts.{ServeCounts}
 use Rattle.serve_engine.specs.declared.report.Report.{Report}
@@ -73,6 +75,23 @@ KeepsNone old new = KeepsNothing old.0 new.0 old.1.dropped new.1.dropped
 -- of no frame: nothing was, and no more is counted than bad counts
 abbrev pub KeepsNoFrame : OutputState × ServeCounts → OutputState × ServeCounts → Type 0
 KeepsNoFrame old new = KeepsNone old new × CountsBroken old.1 new.1
+
+-- a peer that may not send is counted
+abbrev pub peer_counted : OutputState × ServeCounts → OutputState × ServeCounts
+peer_counted old = (old.0, not_allowed_counted old.1)
+
+-- it is, where a step says so
+abbrev pub with_peer : ServerStep → OutputState × ServeCounts → OutputState × ServeCounts
+with_peer (step.Opened conn listener framing peer) old = old
+with_peer (step.Piece conn len) old = old
+with_peer (step.Ended conn end) old = old
+with_peer (step.Datagram listener peer len) old = old
+with_peer (step.TurnedAway listener framing peer) old = old
+with_peer (step.NotAllowed listener peer) old = peer_counted old
+with_peer step.Tick old = old
+with_peer step.InputEnded old = old
+with_peer step.Finished old = old
+with_peer (step.Failed fault) old = old
 
 -- where a step has no event, nothing was, and nothing that came is counted
 abbrev pub KeepsSilent : Bool → OutputState × ServeCounts → OutputState × ServeCounts → Type 0

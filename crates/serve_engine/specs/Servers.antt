@@ -11,7 +11,7 @@ use Rattle.serve_engine.specs.Intakes.{StandsBy}
 use Rattle.serve_engine.specs.Keepings.{Kept, StaysCommitted}
 use Rattle.serve_engine.specs.Refusals.{outputs_in, KeepsSilent, kept_in}
 use Rattle.serve_engine.specs.Serving.{Gave, HoldsReceived, IfCommitted, IfSettled, IsCause, Served, UnlessMemory}
-use Rattle.serve_engine.specs.Serving.{UnlessStopped, event_in, is_due, is_over}
+use Rattle.serve_engine.specs.Serving.{UnlessStopped, event_in, is_due, is_over, with_peer_in}
 use Rattle.serve_engine.specs.declared.counts.ServeCounts.{ServeCounts}
 use Rattle.serve_engine.specs.declared.intake.Intake.{Intake}
 use Rattle.serve_engine.specs.declared.serve_end.ServeEnd.{ServeEnd}
@@ -79,11 +79,12 @@ pub record Made : Type 0 where
   pub turn : Turn
 
 -- The step of a turn, and whether the connection of that is lost. There is one, unless the disk was full or memory was
--- short, and the source gave it. Where it has no event, no refused frame is kept, and nothing that came is counted.
+-- short, and the source gave it. Where it has no event, no refused frame is kept, and nothing that came is counted but a peer
+-- that may not send.
 pub record IsGiven (a b : Around) (step : Option Given) (lost : Bool) : Type 0 where
   pub asked : is_none step ≡ rests a
   pub gave : Gave a.source b.source step lost
-  pub silent : IfNone (event_in step) (KeepsSilent (is_due step) a.refusals b.refusals)
+  pub silent : IfNone (event_in step) (KeepsSilent (is_due step) (with_peer_in step a.refusals) b.refusals)
 
 -- A turn over first entries, behind what was kept and events before it. Its step was served, and what was refused of that
 -- is kept. What was committed still is; where a commit is due, what is committed is all that was received, unless the disk

@@ -12,7 +12,7 @@ use Rattle.socket_source.specs.declared.step.ServerStep.TheVariants as step
 use Rattle.serve_engine.specs.Events.{IsAccepted, Manner, event_of, manner_of}
 use Rattle.serve_engine.specs.Intakes.{IsCommitted, StandsBy}
 use Rattle.serve_engine.specs.Keepings.{Kept, StaysCommitted}
-use Rattle.serve_engine.specs.Refusals.{KeepsEvent}
+use Rattle.serve_engine.specs.Refusals.{KeepsEvent, with_peer}
 use Rattle.serve_engine.specs.declared.counts.ServeCounts.{ServeCounts}
 use Rattle.serve_engine.specs.declared.intake.Intake.{Intake}
 use Rattle.serve_engine.specs.declared.keeping.KeepFault.{KeepFault}
@@ -31,6 +31,7 @@ asks_commit (step.Piece conn len) = false
 asks_commit (step.Ended conn end) = false
 asks_commit (step.Datagram listener peer len) = false
 asks_commit (step.TurnedAway listener framing peer) = false
+asks_commit (step.NotAllowed listener peer) = false
 asks_commit step.Tick = true
 asks_commit step.InputEnded = false
 asks_commit step.Finished = true
@@ -57,6 +58,7 @@ ClosesOwn lost old new (step.Piece conn len) = ClosesLost lost old new conn
 ClosesOwn lost old new (step.Ended conn end) = new ≡ old
 ClosesOwn lost old new (step.Datagram listener peer len) = new ≡ old
 ClosesOwn lost old new (step.TurnedAway listener framing peer) = new ≡ old
+ClosesOwn lost old new (step.NotAllowed listener peer) = new ≡ old
 ClosesOwn lost old new step.Tick = new ≡ old
 ClosesOwn lost old new step.InputEnded = new ≡ old
 ClosesOwn lost old new step.Finished = new ≡ old
@@ -81,6 +83,11 @@ Gave old new (Some g) lost = GivesStep old new g lost
 abbrev pub event_in : Option Given → Option AcceptedEvent
 event_in None = None
 event_in (Some g) = event_of g.step g.octets
+
+-- what was kept and counted, with a peer of that step that may not send
+abbrev pub with_peer_in : Option Given → OutputState × ServeCounts → OutputState × ServeCounts
+with_peer_in None was = was
+with_peer_in (Some g) was = with_peer g.step was
 
 -- the step was served behind other events; where there is none nothing came
 abbrev pub Served : Manner → List AcceptedEvent → Option Given → List AcceptedEvent → Bool → Turn → OutputState × ServeCounts
@@ -136,6 +143,7 @@ is_last (step.Piece conn len) = false
 is_last (step.Ended conn end) = false
 is_last (step.Datagram listener peer len) = false
 is_last (step.TurnedAway listener framing peer) = false
+is_last (step.NotAllowed listener peer) = false
 is_last step.Tick = false
 is_last step.InputEnded = false
 is_last step.Finished = true
@@ -153,6 +161,7 @@ is_piece (step.Piece conn len) = true
 is_piece (step.Ended conn end) = false
 is_piece (step.Datagram listener peer len) = false
 is_piece (step.TurnedAway listener framing peer) = false
+is_piece (step.NotAllowed listener peer) = false
 is_piece step.Tick = false
 is_piece step.InputEnded = false
 is_piece step.Finished = false

@@ -31,6 +31,8 @@ pub struct ServeCounts {
     pub dropped: u64,
     /// Lines on frames and connections that the pace of the notes left out.
     pub quiet: u64,
+    /// Datagrams and connections of peers that may not send, of which nothing was read.
+    pub not_allowed: u64,
 }
 
 impl ServeCounts {

@@ -24,6 +24,8 @@ pub(crate) enum Happening {
     Idle,
     /// There was no room for it.
     TurnedAway,
+    /// Its peer may not send.
+    NotAllowed,
     /// There was no memory for it, or for what came on it.
     NoMemory,
     /// It was a datagram, for whose record there was no memory.
@@ -120,6 +122,7 @@ pub(crate) fn put_happening(
         Happening::Reset => put_peer(alloc, out, way, b" reset\n"),
         Happening::Idle => put_peer(alloc, out, way, b" idle\n"),
         Happening::TurnedAway => put_peer(alloc, out, way, b" closed: too many connections\n"),
+        Happening::NotAllowed => put_peer(alloc, out, way, b" not allowed\n"),
         Happening::NoMemory => put_peer(alloc, out, way, b" closed: want of memory\n"),
         Happening::Dropped => put_peer(alloc, out, way, b" dropped: want of memory\n"),
     }
@@ -130,8 +133,12 @@ fn put_count(out: &mut Vec<u8>, words: &[u8], count: u64) -> Result<(), AllocErr
     put_number(out, count)
 }
 
-/// Appends the line of counts.
-pub(crate) fn put_counts(out: &mut Vec<u8>, counts: &ServeCounts) -> Result<(), AllocError> {
+/// Appends the line of counts, with the peers that may not send if somebody asks for them.
+pub(crate) fn put_counts(
+    out: &mut Vec<u8>,
+    counts: &ServeCounts,
+    with_not_allowed: bool,
+) -> Result<(), AllocError> {
     put_count(out, b"received ", counts.received)?;
     put_count(out, b" new ", counts.new)?;
     put_count(out, b" held ", counts.held)?;
@@ -141,5 +148,8 @@ pub(crate) fn put_counts(out: &mut Vec<u8>, counts: &ServeCounts) -> Result<(), 
     put_count(out, b" batches ", counts.batches)?;
     put_count(out, b" octets ", counts.octets)?;
     put_count(out, b" quiet ", counts.quiet)?;
+    if with_not_allowed {
+        put_count(out, b" not-allowed ", counts.not_allowed)?;
+    }
     put(out, b"\n")
 }

@@ -3,9 +3,10 @@ ghost use Rattle.std.specs.Prelude.{◌≡◌, ◌≤◌, false, true};
 ghost use Rattle.serve_engine.specs.Counts.{CountsDropped, CountsEnd, connection_counted, count_up, counted, no_counts};
 ghost use Rattle.serve_engine.specs.Counts.{broken_counted, commit_counted, octets_counted, quiet_counted};
 ghost use Rattle.serve_engine.specs.Paces.{GoesByPace, HasLine, PaysFor, SpendsLine};
-ghost use Rattle.serve_engine.specs.Peers.{peer_of};
+ghost use Rattle.std.specs.Net.Socket.{socket_ip};
+ghost use Rattle.serve_engine.specs.Peers.{number_of, peer_of};
 ghost use Rattle.serve_engine.specs.Refusals.{CountsLost, KeepsEach, KeepsFrame, KeepsNext, KeepsNone, KeepsSilent};
-ghost use Rattle.serve_engine.specs.Refusals.{kept_in, octets_in, outputs_in};
+ghost use Rattle.serve_engine.specs.Refusals.{kept_in, octets_in, outputs_in, peer_counted};
 ghost use Rattle.serve_engine.specs.declared.turn.Turn.TheVariants.{On};
 
 use crate::counts::ServeCounts;
@@ -19,6 +20,7 @@ use collect_engine::Received;
 use octet_devices::{Output, write_all};
 use socket_source::ConnectionEnd;
 use std::alloc::{AllocError, Global};
+use std::net::SocketAddr;
 use syslog_collect::{Observer, Outcome};
 
 /// The lines, the counts, and the frames that are refused.
@@ -57,6 +59,7 @@ impl<N: Output + Drop, R: Output + Drop> Report<N, R> {
                 broken: 0,
                 dropped: 0,
                 quiet: 0,
+                not_allowed: 0,
             },
             number: 1,
             way: Way::Unix,
@@ -142,13 +145,13 @@ impl<N: Output + Drop, R: Output + Drop> Report<N, R> {
         self.write_line(made);
     }
 
-    /// Tells the counts.
-    pub(crate) fn tell_counts(&mut self)
+    /// Tells the counts, with the peers that may not send if that is asked for.
+    pub(crate) fn tell_counts(&mut self, with_not_allowed: bool)
         ensures kept { KeepsSilent false (kept_in R.state self.old) (kept_in R.state self.new) }
         ensures pace { self.new.pace ≡ self.old.pace }
     {
         self.line.clear();
-        let made = put_counts(&mut self.line, &self.counts);
+        let made = put_counts(&mut self.line, &self.counts, with_not_allowed);
         self.write_line(made);
     }
 
@@ -268,6 +271,16 @@ impl<N: Output + Drop, R: Output + Drop> Report<N, R> {
     {
         count_up(&mut self.counts.broken, 1);
         self.tell(alloc, way, happening);
+    }
+
+    /// Counts a peer that may not send, and tells it at the pace of the notes.
+    pub(crate) fn not_allowed(&mut self, alloc: Global, peer: SocketAddr)
+        ensures kept { KeepsSilent false (peer_counted (kept_in R.state self.old)) (kept_in R.state self.new) }
+        ensures pace { GoesByPace self.old.pace self.new.pace (number_of (socket_ip peer)) self.old.counts.quiet
+            self.new.counts.quiet }
+    {
+        count_up(&mut self.counts.not_allowed, 1);
+        self.tell(alloc, Way::Udp(peer), Happening::NotAllowed);
     }
 
     /// Counts and tells that a datagram is lost for want of memory, if it is.

@@ -3,7 +3,7 @@ ghost use Rattle.std.specs.Prelude.{◌≡◌, Bool, IfNone, false, length, true
 ghost use Rattle.serve_engine.specs.declared.turn.Turn.TheVariants.{On};
 ghost use Rattle.socket_source.specs.Steps.{IsWithin, octets_of};
 ghost use Rattle.serve_engine.specs.Events.{event_of, manner_of};
-ghost use Rattle.serve_engine.specs.Refusals.{KeepsSilent, kept_in};
+ghost use Rattle.serve_engine.specs.Refusals.{KeepsSilent, kept_in, with_peer};
 ghost use Rattle.serve_engine.specs.Servers.{ServesRun, ServesTurn, intake_of, place_of};
 ghost use Rattle.serve_engine.specs.Serving.{ClosesOwn, IsStepTurn, ServesStep, asks_commit, is_last};
 
@@ -23,6 +23,8 @@ pub struct ServeOptions {
     pub checkpoint_len: u64,
     /// After how many milliseconds the counts are told, at the next tick; 0 means never.
     pub count_millis: u64,
+    /// Whether the counts that are told have the peers that may not send.
+    pub counts_not_allowed: bool,
 }
 
 impl<S: Store + Drop, K: Keeping<S> + Drop, N: Output + Drop, R: Output + Drop> Server<S, K, N, R> {
@@ -46,7 +48,7 @@ impl<S: Store + Drop, K: Keeping<S> + Drop, N: Output + Drop, R: Output + Drop> 
         ensures turn { IsStepTurn step result }
         ensures last { is_last step ≡ true → result ≡ On → self.new.full ≡ true }
         ensures silent { IfNone (event_of step (octets_of step buf.now))
-            (KeepsSilent (asks_commit step) (kept_in R.state self.old.report)
+            (KeepsSilent (asks_commit step) (with_peer step (kept_in R.state self.old.report))
             (kept_in R.state self.new.report)) }
     {
         match step {
@@ -68,6 +70,7 @@ impl<S: Store + Drop, K: Keeping<S> + Drop, N: Output + Drop, R: Output + Drop> 
                 framing,
                 peer,
             } => self.turned_away(alloc, framing, peer),
+            ServerStep::NotAllowed { listener: _, peer } => self.not_allowed(alloc, peer),
             ServerStep::Tick => self.tick(alloc, pause.passed(), options),
             ServerStep::InputEnded => Turn::On,
             ServerStep::Finished => self.finish(alloc, ServeEnd::Finished),

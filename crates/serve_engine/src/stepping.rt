@@ -8,7 +8,7 @@ ghost use Rattle.serve_engine.specs.Events.{Receives, bad_last, ends_in_bad_coun
 ghost use Rattle.serve_engine.specs.Intakes.{StandsBy};
 ghost use Rattle.serve_engine.specs.Keepings.{Kept};
 ghost use Rattle.serve_engine.specs.Paces.{PaysFor};
-ghost use Rattle.serve_engine.specs.Refusals.{KeepsSilent, kept_in};
+ghost use Rattle.serve_engine.specs.Refusals.{KeepsSilent, kept_in, peer_counted};
 ghost use Rattle.serve_engine.specs.Serving.{Accepts, ClosesLost, CommitsAll, EndsUnlessFull, FaultsAs};
 ghost use Rattle.serve_engine.specs.Serving.{IsCommitTurn, IsEventTurn, IsToldFull, TellsFull, UnlessStopped};
 ghost use Rattle.serve_engine.specs.declared.serve_end.ServeEnd.TheVariants.{Disk, Memory};
@@ -205,6 +205,18 @@ impl<S: Store + Drop, K: Keeping<S> + Drop, N: Output + Drop, R: Output + Drop> 
         Turn::On
     }
 
+    // A connection or a datagram came of a peer that may not send.
+    pub(crate) fn not_allowed(&mut self, alloc: Global, peer: SocketAddr) -> Turn
+        ensures same { self.new.intake ≡ self.old.intake }
+        ensures full { self.new.full ≡ self.old.full }
+        ensures turn { result ≡ On }
+        ensures kept { KeepsSilent false (peer_counted (kept_in R.state self.old.report))
+            (kept_in R.state self.new.report) }
+    {
+        self.report.not_allowed(alloc, peer);
+        Turn::On
+    }
+
     // Nothing is read until what waits is committed, which is tried again. Why is told once.
     fn wait(&mut self, line: &[u8]) -> Turn
         ensures same { self.new.intake ≡ self.old.intake }
@@ -288,7 +300,7 @@ impl<S: Store + Drop, K: Keeping<S> + Drop, N: Output + Drop, R: Output + Drop> 
         self.waited = self.waited.saturating_add(u64::from(millis));
         if options.count_millis != 0 && self.waited >= options.count_millis {
             self.waited = 0;
-            self.report.tell_counts();
+            self.report.tell_counts(options.counts_not_allowed);
         }
     }
 

@@ -2,6 +2,8 @@
 #![tactic(auto)]
 
 #[cfg(test)]
+mod allowing;
+#[cfg(test)]
 mod collecting;
 #[cfg(test)]
 mod serving;

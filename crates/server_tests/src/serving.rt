@@ -3,6 +3,7 @@
 use archive_pages::PagedArchive;
 use archive_text::Store;
 use octet_devices::{Fuse, ToWrite};
+use peer_rules::AllowList;
 use serve_engine::{KeepFault, Keeping, Pause, ServeCounts, ServeEnd, ServeOptions, Server, Taken};
 use socket_source::{ConnectionEnd, MemorySource, ServerStep, SourceFault};
 use std::alloc::Global;
@@ -165,7 +166,7 @@ fn source_of(alloc: Global, given: &[Given<'_>]) -> Result<MemorySource, Fail> {
         let (step, octets) = step_of(*one)?;
         steps.push((step, octets.to_vec(alloc)?))?;
     }
-    Ok(MemorySource::new(alloc, 4, 3, steps)?)
+    Ok(MemorySource::new(alloc, 4, 3, AllowList::new(alloc), steps)?)
 }
 
 // What serving these steps comes to.
@@ -205,6 +206,7 @@ fn served_with(
     let options = ServeOptions {
         checkpoint_len: 1,
         count_millis,
+        counts_not_allowed: false,
     };
     let end = server.serve(alloc, &mut source, &mut pause, &options);
     let counts = server.counts();

@@ -1,6 +1,7 @@
 //! Steps of a list, and of real sockets over the loopback, in one process.
 
 use libc::{STDIN_FILENO, net as c};
+use peer_rules::AllowList;
 use socket_source::{
     ConnectionEnd, Listener, MemorySource, OpenFault, PIECE_MAX, STEPS_BETWEEN, ServerSource,
     ServerStep, SocketSource, SourceFault, SourceOptions,
@@ -45,7 +46,13 @@ fn open<'a>(
     listeners: &[Listener<'_>],
     options: SourceOptions,
 ) -> Result<Sockets<'a>, OpenFault> {
-    SocketSource::open(rt, rt.alloc(), listeners, options)
+    SocketSource::open(
+        rt,
+        rt.alloc(),
+        listeners,
+        AllowList::new(rt.alloc()),
+        options,
+    )
 }
 
 // The address of a listener.
@@ -208,7 +215,7 @@ fn listed(alloc: Global, rows: &[(ServerStep, &[u8])]) -> Result<MemorySource, F
     for (step, octets) in rows {
         steps.push((*step, octets.to_vec(alloc)?))?;
     }
-    Ok(MemorySource::new(alloc, 2, 1, steps)?)
+    Ok(MemorySource::new(alloc, 2, 1, AllowList::new(alloc), steps)?)
 }
 
 #[test]

@@ -1,3 +1,4 @@
 pub mod AddressLemmas
 pub mod ListenerLemmas
+pub mod NetworkLemmas
 pub mod ServeLemmas

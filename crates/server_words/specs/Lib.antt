@@ -1,3 +1,4 @@
 pub mod Addresses
 pub mod Listeners
+pub mod Networks
 pub mod Serves

@@ -6,19 +6,22 @@ use Rattle.option_values.specs.Numbers.{number_in}
 use Rattle.option_values.specs.Readings.{reading_in}
 use Rattle.option_values.specs.Values.{is_given_in, optional}
 use Rattle.server_words.specs.Listeners.{ListenerAsked, listener_asked, listeners_in}
+use Rattle.server_words.specs.Networks.{NetworkAsked, network_asked, networks_in}
 use Rattle.server_words.specs.declared.serve_words.ServeOptions.{ServeOptions}
 use Rattle.server_words.specs.declared.serve_words.ServeWords.{ServeWords}
 
--- a folder, what is listened on, and what the server is to do; texts without where they lie in memory
+-- a folder, what is listened on, who may send, and what the server is to do; texts without where they lie in memory
 pub record ServeAsked : Type 0 where
   pub dir : Text
   pub listeners : List ListenerAsked
+  pub allowed : List NetworkAsked
   pub options : ServeOptions
 
 abbrev pub serve_asked : ServeWords → ServeAsked
 serve_asked words = record {
   dir = words.dir.now;
   listeners = map listener_asked words.listeners.items;
+  allowed = map network_asked words.allowed.items;
   options = words.options;
 }
 
@@ -46,13 +49,15 @@ options_in rows =
     (optional (number_in 1 16_384) (first_of (codes "per-peer") rows)))
     (option_and_then (number_in 1 16_384) (first_of (codes "connections") rows))
 
--- a folder, what is listened on, and what the server is to do; none where nothing is listened on
-abbrev pub served : Text → List ListenerAsked → ServeOptions → Option ServeAsked
-served dir [] options = None
-served dir (first ∷ rest) options = Some (record { dir = dir; listeners = first ∷ rest; options = options })
+-- a folder, what is listened on, who may send, and what the server is to do; none where nothing is listened on
+abbrev pub served : Text → List ListenerAsked → List NetworkAsked → ServeOptions → Option ServeAsked
+served dir [] allowed options = None
+served dir (first ∷ rest) allowed options =
+    Some (record { dir = dir; listeners = first ∷ rest; allowed = allowed; options = options })
 
 -- the values of the words of `serve`
 abbrev pub serve_in : List Row → Option ServeAsked
 serve_in rows =
-    option_and_then (λ dir. option_and_then (λ listeners. option_and_then (served dir listeners) (options_in rows))
-    (listeners_in rows)) (first_of (codes "DIR") rows)
+    option_and_then (λ dir. option_and_then (λ listeners. option_and_then (λ allowed.
+    option_and_then (served dir listeners allowed) (options_in rows)) (networks_in rows)) (listeners_in rows))
+    (first_of (codes "DIR") rows)

@@ -6,6 +6,7 @@
 
 mod address;
 mod listeners;
+mod networks;
 mod serve_words;
 
 pub use listeners::{InheritedKind, ListenerWords};

@@ -6,11 +6,13 @@ ghost use Rattle.clap.specs.Words.{found_of, rows_of};
 ghost use Rattle.server_words.specs.Serves.{options_in, per_peer_of, serve_asked, serve_in};
 
 use crate::listeners::{ListenerWords, listeners};
+use crate::networks::networks;
 use clap::ArgMatches;
 use option_values::options::{
     CHECKPOINT, COMMIT, CONNECTIONS, IDLE, PER_PEER, SERVED_DIR, UNTIL_EOF,
 };
 use option_values::{Refusal, is_given, number, optional_number, reading_of_matches, value};
+use peer_rules::Network;
 use std::alloc::{AllocError, Global};
 use syslog_legacy::FrameReading;
 
@@ -43,6 +45,9 @@ pub struct ServeWords<'a> {
     /// What is listened on, at least one socket: all of `--udp`, then `--counted`, `--lf`, `--unix`
     /// and `--inherited`, each kind in the order of the words.
     pub listeners: Vec<ListenerWords<'a>>,
+    /// The networks of `--allow`, whose addresses may send, in the order of the words; with none of them
+    /// everybody may.
+    pub allowed: Vec<Network>,
     /// What the server is to do.
     pub options: ServeOptions,
 }
@@ -99,6 +104,10 @@ pub fn read_serve_words<'a>(
         Ok(listeners) => listeners,
         Err(refusal) => return Ok(Err(refusal)),
     };
+    let allowed = match networks(alloc, matches)? {
+        Ok(allowed) => allowed,
+        Err(refusal) => return Ok(Err(refusal)),
+    };
     let options = match options(matches) {
         Ok(options) => options,
         Err(refusal) => return Ok(Err(refusal)),
@@ -109,6 +118,7 @@ pub fn read_serve_words<'a>(
     Ok(Ok(ServeWords {
         dir,
         listeners,
+        allowed,
         options,
     }))
 }

@@ -1,3 +1,4 @@
+pub mod Allowing
 pub mod Numbers
 pub mod Listing
 pub mod Stays

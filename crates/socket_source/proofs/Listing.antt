@@ -4,6 +4,7 @@ use Rattle.std.proofs.Common.{min, inl, inr}
 use Rattle.std.specs.Prelude.{◌==◌, map, nat_lt, not}
 use Rattle.std.proofs.lemmas.Bool.{cases_lt, eq-eqb, le-ltb, lt-ltb, ne_eqb}
 use Rattle.std.proofs.lemmas.List.{length-take, take_all}
+use Rattle.peer_rules.specs.declared.network.Network.{Network}
 use Rattle.socket_source.specs.declared.limits.TheConstants.{PIECE_MAX}
 use Rattle.socket_source.specs.Scripts.{Item, IsFirst, listed, listed_item, standing_by}
 use Rattle.socket_source.specs.Steps.{Standing, Given, behind, finished, may_come, next_of}
@@ -82,11 +83,11 @@ listed_at (x ∷ xs) (suc at) item octets within is octets_are =
     listed_at xs at item octets (omega arith) is octets_are
 
 -- whether it may come, as it was told
-pub may_at : (flags slice : List Bool) (listeners : ℕ) (items : List Item) (at : ℕ) (item : Item) (octets : List ℕ)
+pub may_at : (flags slice : List Bool) (listeners : ℕ) (networks : List Network) (items : List Item) (at : ℕ) (item : Item) (octets : List ℕ)
     (told : Bool) → at < length items → item ≡ get_or items at item → octets ≡ item.1.items → slice ≡ flags
-    → told ≡ may_come (standing_by slice listeners) (listed item.0 octets).step
-    → may_come (standing_by flags listeners) (get_or (map listed_item items) at finished).step ≡ told
-may_at flags slice listeners items at item octets told within is octets_are slice_is told_is =
-    ap (λ (g : Given). may_come (standing_by flags listeners) g.step) (sym (listed_at items at item octets within is octets_are))
-    ∙ ap (λ (fs : List Bool). may_come (standing_by fs listeners) (listed item.0 octets).step) (sym slice_is)
+    → told ≡ may_come (standing_by slice listeners networks) (listed item.0 octets).step
+    → may_come (standing_by flags listeners networks) (get_or (map listed_item items) at finished).step ≡ told
+may_at flags slice listeners networks items at item octets told within is octets_are slice_is told_is =
+    ap (λ (g : Given). may_come (standing_by flags listeners networks) g.step) (sym (listed_at items at item octets within is octets_are))
+    ∙ ap (λ (fs : List Bool). may_come (standing_by fs listeners networks) (listed item.0 octets).step) (sym slice_is)
     ∙ sym told_is

@@ -12,7 +12,7 @@ IsLawful-tick old new same =
     subst (λ (s : Standing). IsLawful old s 0 Tick) (sym same) (record {
       within = tt;
       may = refl;
-      becomes = record { opened = λ n. refl; limit = refl; listeners = refl };
+      becomes = record { opened = λ n. refl; limit = refl; listeners = refl; networks = refl };
     })
 
 pub IsLawful-failed : (old new : Standing) (room : ℕ) (fault : SourceFault) → new ≡ old
@@ -21,5 +21,5 @@ IsLawful-failed old new room fault same =
     subst (λ (s : Standing). IsLawful old s room (Failed fault)) (sym same) (record {
       within = tt;
       may = refl;
-      becomes = record { opened = λ n. refl; limit = refl; listeners = refl };
+      becomes = record { opened = λ n. refl; limit = refl; listeners = refl; networks = refl };
     })

@@ -1,11 +1,12 @@
 -- A source over a list of steps.
 use Rattle.std.specs.Prelude.{◌≡◌, ℕ, ◌+◌, ◌<◌, Bool, true, false, List, [], length, take, drop, slice_index_or, Vec}
 use Rattle.std.specs.Global.{Global}
+use Rattle.peer_rules.specs.declared.network.Network.{Network}
 use Rattle.socket_source.specs.Steps.{Standing, Given, behind, finished, may_come, next_of}
 use Rattle.socket_source.specs.declared.limits.TheConstants.{PIECE_MAX}
 use Rattle.socket_source.specs.declared.step.ServerStep.{ServerStep}
 use Rattle.socket_source.specs.declared.step.ServerStep.TheVariants.{Opened, Piece, Ended, Datagram, TurnedAway}
-use Rattle.socket_source.specs.declared.step.ServerStep.TheVariants.{Tick, InputEnded, Finished, Failed}
+use Rattle.socket_source.specs.declared.step.ServerStep.TheVariants.{NotAllowed, Tick, InputEnded, Finished, Failed}
 
 -- an item of a list: a step, and the octets of a piece or a datagram
 abbrev pub Item : Type 0
@@ -21,6 +22,7 @@ listed (Ended conn end) octets = record { step = Ended conn end; octets = [] }
 listed (Datagram listener peer len) octets =
     record { step = Datagram listener peer (length (take PIECE_MAX octets)); octets = take PIECE_MAX octets }
 listed (TurnedAway listener framing peer) octets = record { step = TurnedAway listener framing peer; octets = [] }
+listed (NotAllowed listener peer) octets = record { step = NotAllowed listener peer; octets = [] }
 listed Tick octets = record { step = Tick; octets = [] }
 listed InputEnded octets = record { step = InputEnded; octets = [] }
 listed Finished octets = record { step = Finished; octets = [] }
@@ -33,8 +35,13 @@ listed_item item = listed item.0 item.1.items
 abbrev pub flagged : List Bool → ℕ → Bool
 flagged flags n = slice_index_or flags n false
 
-abbrev pub standing_by : List Bool → ℕ → Standing
-standing_by flags listeners = record { live = flagged flags; limit = length flags; listeners = listeners }
+abbrev pub standing_by : List Bool → ℕ → List Network → Standing
+standing_by flags listeners networks = record {
+  live = flagged flags;
+  limit = length flags;
+  listeners = listeners;
+  networks = networks;
+}
 
 -- of the steps from a place on, this is the first that may come
 pub record IsFirst (s : Standing) (gs : List Given) (from at : ℕ) : Type 0 where

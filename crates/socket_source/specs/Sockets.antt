@@ -7,7 +7,8 @@ use Rattle.socket_source.specs.declared.refusal.Reading.TheVariants.{Piece, Ende
 use Rattle.socket_source.specs.declared.step.ConnectionEnd.TheVariants as end
 use Rattle.socket_source.specs.declared.step.ServerStep.{ServerStep}
 use Rattle.socket_source.specs.declared.step.ServerStep.TheVariants as step
-use Rattle.socket_source.specs.declared.step.ServerStep.TheVariants.{Opened, Datagram, TurnedAway, Tick, InputEnded, Finished, Failed}
+use Rattle.socket_source.specs.declared.step.ServerStep.TheVariants.{Opened, Datagram, TurnedAway, NotAllowed}
+use Rattle.socket_source.specs.declared.step.ServerStep.TheVariants.{Tick, InputEnded, Finished, Failed}
 
 -- a number has a connection
 abbrev pub open_in : {T : Type 0} → Slab T → ℕ → Bool
@@ -33,6 +34,7 @@ IsOf conn (step.Piece c len) = c ≡ conn
 IsOf conn (step.Ended c end) = c ≡ conn
 IsOf conn (Datagram listener peer len) = ⊥
 IsOf conn (TurnedAway listener framing peer) = ⊥
+IsOf conn (NotAllowed listener peer) = ⊥
 IsOf conn Tick = ⊥
 IsOf conn InputEnded = ⊥
 IsOf conn Finished = ⊥
@@ -45,6 +47,7 @@ IsAt listener (step.Piece conn len) = ⊥
 IsAt listener (step.Ended conn end) = ⊥
 IsAt listener (Datagram l peer len) = l ≡ listener
 IsAt listener (TurnedAway l framing peer) = l ≡ listener
+IsAt listener (NotAllowed l peer) = l ≡ listener
 IsAt listener Tick = ⊥
 IsAt listener InputEnded = ⊥
 IsAt listener Finished = ⊥
@@ -57,6 +60,7 @@ IsAtOrDisplaced listener (step.Piece conn len) = ⊥
 IsAtOrDisplaced listener (step.Ended conn e) = e ≡ end.Displaced
 IsAtOrDisplaced listener (Datagram l peer len) = l ≡ listener
 IsAtOrDisplaced listener (TurnedAway l framing peer) = l ≡ listener
+IsAtOrDisplaced listener (NotAllowed l peer) = l ≡ listener
 IsAtOrDisplaced listener Tick = ⊥
 IsAtOrDisplaced listener InputEnded = ⊥
 IsAtOrDisplaced listener Finished = ⊥

@@ -1,5 +1,6 @@
 -- What is open in a source over sockets.
 use Rattle.std.specs.Prelude.{ℕ, Option, vec_len}
+use Rattle.peer_rules.specs.AllowLists.{networks_of}
 use Rattle.syslog_frame.specs.declared.framing.Framing.{Framing}
 use Rattle.socket_source.specs.Framings.{framing_in}
 use Rattle.socket_source.specs.Sockets.{open_in}
@@ -12,6 +13,7 @@ standing_of s = record {
   live = open_in s.connections.streams;
   limit = s.connections.limit;
   listeners = vec_len s.listeners;
+  networks = networks_of s.allowed;
 }
 
 abbrev pub standing : {R : Type 0} → Sockets R → Standing

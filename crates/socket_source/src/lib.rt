@@ -6,6 +6,7 @@
 //! has a list.
 #![tactic(auto)]
 
+mod allowed;
 mod bound;
 mod connection;
 mod connections;

@@ -1,19 +1,22 @@
 //! A source in memory.
 ghost use Rattle.std.specs.Prelude.{◌≡◌, ◌<◌, ◌≤◌, ◌&&◌, ℕ, Bool, length, map, drop, take, not, nat_lt, true, max, min};
 ghost use Rattle.std.specs.Prelude.{IfNone, IfOk, IfSome};
+ghost use Rattle.peer_rules.specs.AllowLists.{networks_of};
 ghost use Rattle.socket_source.specs.Scripts.{IsFirst, MayNone, flagged, listed, listed_item, standing_by};
 ghost use Rattle.socket_source.specs.Steps.{Becomes, Comes, IsFresh, IsLawful, IsWithin, Standing, given_of, may_come};
 ghost use Rattle.socket_source.specs.Steps.{open_after, with_open, without_open};
 
+use crate::allowed::{is_peer, is_sender};
 use crate::counts::StepCounts;
 use crate::limits::{CONNECTIONS_MAX, PIECE_MAX};
 use crate::source::ServerSource;
 use crate::step::{ServerStep, SourceFault};
+use peer_rules::AllowList;
 use std::alloc::{AllocError, Global};
 
 /// A source in memory: it gives the steps of a list, in order, and then the end again and again. A
-/// step that may not come, as a piece under a number that is not open, is passed over; so is what
-/// is listed of a connection that was closed.
+/// step that may not come, as a piece under a number that is not open, or one of a peer that may not
+/// send, is passed over; so is what is listed of a connection that was closed.
 #[derive(Drop)]
 pub struct MemorySource {
     steps: Vec<(ServerStep, Vec<u8>)>,
@@ -22,6 +25,8 @@ pub struct MemorySource {
     // which numbers are open
     flags: Vec<bool>,
     listeners: usize,
+    // who may send
+    allowed: AllowList,
     counts: StepCounts,
 }
 
@@ -86,15 +91,32 @@ fn is_vacant(flags: &[bool], conn: u32) -> bool
 }
 
 // Whether an item may come where these numbers are open.
-fn may_come(flags: &[bool], listeners: usize, step: ServerStep, octets: &[u8]) -> bool
-    ensures { result ≡ may_come (standing_by flags.now listeners) (listed step octets.now).step }
+fn may_come(
+    flags: &[bool],
+    listeners: usize,
+    allowed: &AllowList,
+    step: ServerStep,
+    octets: &[u8],
+) -> bool
+    ensures { result ≡ may_come (standing_by flags.now listeners (networks_of allowed.now)) (listed step octets.now).step }
 {
     match step {
-        ServerStep::Opened { conn, listener, .. } => listener < listeners && is_vacant(flags, conn),
+        ServerStep::Opened {
+            conn,
+            listener,
+            peer,
+            ..
+        } => listener < listeners && is_vacant(flags, conn) && is_peer(allowed, peer),
         ServerStep::Piece { conn, .. } => is_open(flags, conn) && !octets.is_empty(),
         ServerStep::Ended { conn, .. } => is_open(flags, conn),
-        ServerStep::Datagram { listener, .. } | ServerStep::TurnedAway { listener, .. } => {
-            listener < listeners
+        ServerStep::Datagram { listener, peer, .. } => {
+            listener < listeners && is_sender(allowed, peer)
+        }
+        ServerStep::TurnedAway { listener, peer, .. } => {
+            listener < listeners && is_peer(allowed, peer)
+        }
+        ServerStep::NotAllowed { listener, peer } => {
+            listener < listeners && !is_peer(allowed, peer)
         }
         ServerStep::Tick | ServerStep::InputEnded | ServerStep::Finished | ServerStep::Failed(_) =>
             true,
@@ -120,8 +142,8 @@ fn set_closed(flags: &mut [bool], conn: u32)
 }
 
 // Opens or ends what a step says.
-fn apply(flags: &mut [bool], listeners: usize, step: ServerStep)
-    requires { may_come (standing_by flags.old listeners) step ≡ true }
+fn apply(flags: &mut [bool], listeners: usize, allowed: &AllowList, step: ServerStep)
+    requires { may_come (standing_by flags.old listeners (networks_of allowed.now)) step ≡ true }
     ensures { (n : ℕ) → flagged flags.new n ≡ open_after step (flagged flags.old) n }
 {
     match step {
@@ -132,18 +154,19 @@ fn apply(flags: &mut [bool], listeners: usize, step: ServerStep)
 }
 
 impl MemorySource {
-    /// A source that gives these steps, over `listeners` listeners, with at most as many open
-    /// connections as the limit says: from 1 to `CONNECTIONS_MAX`; a number outside is taken for
-    /// the nearest of these. Of a piece or a datagram, the octets count, not the number in the
-    /// step. It fails only when out of memory.
+    /// A source that gives these steps, over `listeners` listeners to which the list says who may send,
+    /// with at most as many open connections as the limit says: from 1 to `CONNECTIONS_MAX`; a number
+    /// outside is taken for the nearest of these. Of a piece or a datagram, the octets count, not the
+    /// number in the step. It fails only when out of memory.
     pub fn new(
         alloc: Global,
         limit: usize,
         listeners: usize,
+        allowed: AllowList,
         steps: Vec<(ServerStep, Vec<u8>)>,
     ) -> Result<MemorySource, AllocError>
         ensures { IfOk result (λ source. IsFresh (⟦<MemorySource as ServerSource>⟧.state source)
-            (max 1 (min limit CONNECTIONS_MAX)) listeners (Some (map listed_item steps.items))) }
+            (max 1 (min limit CONNECTIONS_MAX)) listeners (networks_of allowed) (Some (map listed_item steps.items))) }
     {
         let limit = limit.clamp(1, CONNECTIONS_MAX);
         Ok(MemorySource {
@@ -151,20 +174,21 @@ impl MemorySource {
             at: 0,
             flags: vec![in alloc; false; limit]?,
             listeners,
+            allowed,
             counts: StepCounts::new(),
         })
     }
 
     // The place of the next item that may come.
     fn find(&self) -> Option<usize>
-        ensures found { IfSome result (IsFirst (standing_by self.now.flags.items self.now.listeners)
+        ensures found { IfSome result (IsFirst (standing_by self.now.flags.items self.now.listeners (networks_of self.now.allowed))
             (map listed_item self.now.steps.items) self.now.at) }
-        ensures none { IfNone result (MayNone (standing_by self.now.flags.items self.now.listeners)
+        ensures none { IfNone result (MayNone (standing_by self.now.flags.items self.now.listeners (networks_of self.now.allowed))
             (map listed_item self.now.steps.items) self.now.at) }
     {
         for at in self.at..self.steps.len() {
             let (step, octets) = &self.steps[at];
-            if may_come(&self.flags, self.listeners, *step, octets) {
+            if may_come(&self.flags, self.listeners, &self.allowed, *step, octets) {
                 return Some(at);
             }
         }
@@ -173,24 +197,24 @@ impl MemorySource {
 
     // Opens or ends what a step says.
     fn note(&mut self, step: ServerStep)
-        requires { may_come (standing_by self.old.flags.items self.old.listeners) step ≡ true }
-        ensures becomes { Becomes (standing_by self.old.flags.items self.old.listeners)
-            (standing_by self.new.flags.items self.new.listeners)
+        requires { may_come (standing_by self.old.flags.items self.old.listeners (networks_of self.old.allowed)) step ≡ true }
+        ensures becomes { Becomes (standing_by self.old.flags.items self.old.listeners (networks_of self.old.allowed))
+            (standing_by self.new.flags.items self.new.listeners (networks_of self.new.allowed))
             (open_after step (flagged self.old.flags.items)) }
         ensures steps { self.new.steps ≡ self.old.steps }
         ensures at { self.new.at ≡ self.old.at }
         ensures counts { self.new.counts ≡ self.old.counts }
     {
-        apply(&mut self.flags, self.listeners, step);
+        apply(&mut self.flags, self.listeners, &self.allowed, step);
     }
 
     // Gives the next step.
     fn give_next(&mut self, buf: &mut [u8]) -> ServerStep
         ensures counts { self.new.counts ≡ self.old.counts }
-        ensures lawful { IsLawful (standing_by self.old.flags.items self.old.listeners)
-            (standing_by self.new.flags.items self.new.listeners) (length buf.new) result }
+        ensures lawful { IsLawful (standing_by self.old.flags.items self.old.listeners (networks_of self.old.allowed))
+            (standing_by self.new.flags.items self.new.listeners (networks_of self.new.allowed)) (length buf.new) result }
         ensures comes { PIECE_MAX ≤ length buf.new
-            → Comes (standing_by self.old.flags.items self.old.listeners)
+            → Comes (standing_by self.old.flags.items self.old.listeners (networks_of self.old.allowed))
             (Some (drop self.old.at (map listed_item self.old.steps.items)))
             (Some (drop self.new.at (map listed_item self.new.steps.items)))
             (given_of result buf.new) }
@@ -212,11 +236,12 @@ impl MemorySource {
 
 impl ServerSource for MemorySource {
     ghost use Rattle.std.specs.Prelude.{Some, map, drop};
+    ghost use Rattle.peer_rules.specs.AllowLists.{networks_of};
     ghost use Rattle.socket_source.specs.Scripts.{listed_item, standing_by};
     ghost use Rattle.socket_source.specs.Steps.{counts_of};
 
     ghost state = { λ s. record {
-      standing = standing_by s.flags.items s.listeners;
+      standing = standing_by s.flags.items s.listeners (networks_of s.allowed);
       counts = counts_of s.counts;
       coming = Some (drop s.at (map listed_item s.steps.items));
     } };

@@ -1,9 +1,12 @@
 //! The sockets that are listened on, and those that are open.
-ghost use Rattle.std.specs.Prelude.{◌≡◌, ◌<◌, ◌≤◌, true, length, vec_len, IfNone, IfSome, IsSome, None};
+ghost use Rattle.std.specs.Prelude.{◌≡◌, ◌<◌, ◌≤◌, false, true, length, vec_len, IfNone, IfSome, IsSome, None};
 ghost use Rattle.socket_source.specs.Sockets.{IsAt, IsAtOrDisplaced, IsOf};
-ghost use Rattle.socket_source.specs.Steps.{Becomes, IfLawful, IsLawful, without_open};
+ghost use Rattle.peer_rules.specs.AllowLists.{networks_of};
+ghost use Rattle.socket_source.specs.Steps.{Becomes, IfLawful, IsLawful, is_peer, without_open};
 ghost use Rattle.socket_source.specs.Turns.{IsWithinShare};
+ghost use Rattle.socket_source.specs.declared.step.ServerStep.TheVariants.{NotAllowed};
 
+use crate::allowed::is_peer;
 use crate::bound::{Bound, accept_from, receive};
 use crate::connections::Connections;
 use crate::limits::{ACCEPTS_A_TURN, DATAGRAMS_A_TURN};
@@ -15,6 +18,7 @@ use crate::step::{ConnectionEnd, ServerStep};
 use crate::system::spare_descriptor;
 use mio::Poll;
 use mio::net::TcpStream;
+use peer_rules::AllowList;
 use std::net::SocketAddr;
 use std::os::fd::OwnedFd;
 use std::time::Instant;
@@ -52,6 +56,8 @@ pub(crate) struct OpenSockets {
     pub(crate) poll: Poll,
     pub(crate) listeners: Vec<Bound>,
     pub(crate) connections: Connections,
+    // whose datagrams and connections are taken
+    pub(crate) allowed: AllowList,
     pub(crate) spare: Option<OwnedFd>,
     // the connection for which another has just ended
     pub(crate) arrived: Option<Arrived>,
@@ -69,7 +75,24 @@ pub(crate) struct Arrived {
 impl OpenSockets {
     ghost use Rattle.socket_source.specs.Standings.{framings_of, standing_of};
 
-    // Opens a connection that was accepted, or turns it away.
+    // The step of a connection that is closed: its peer may not send, or there is no room for it.
+    fn closed(&self, listener: usize, framing: Framing, peer: SocketAddr) -> ServerStep
+        requires { listener < vec_len self.now.listeners }
+        ensures lawful { IsLawful (standing_of self.now) (standing_of self.now) 0 result }
+        ensures at { IsAt listener result }
+    {
+        if is_peer(&self.allowed, peer) {
+            ServerStep::TurnedAway {
+                listener,
+                framing,
+                peer,
+            }
+        } else {
+            ServerStep::NotAllowed { listener, peer }
+        }
+    }
+
+    // Opens a connection that was accepted, or turns it away; one whose peer may not send is closed.
     fn admit(
         &mut self,
         listener: usize,
@@ -80,8 +103,13 @@ impl OpenSockets {
         requires { listener < vec_len self.old.listeners }
         ensures lawful { IsLawful (standing_of self.old) (standing_of self.new) 0 result }
         ensures at { IsAt listener result }
+        ensures elsewhere { is_peer (networks_of self.old.allowed) accepted.1 ≡ false
+            → result ≡ NotAllowed listener accepted.1 }
     {
         let (stream, peer) = accepted;
+        if !is_peer(&self.allowed, peer) {
+            return ServerStep::NotAllowed { listener, peer };
+        }
         let first = listener_number(self.listeners.len());
         let number = peer_number(peer);
         let registry = self.poll.registry();
@@ -103,6 +131,13 @@ impl OpenSockets {
         }
     }
 
+    // Whether another connection has to end before one of this peer, who may send, can be opened.
+    fn lacks_place(&self, peer: SocketAddr) -> bool
+        ensures { result ≡ true → is_peer (networks_of self.now.allowed) peer ≡ true }
+    {
+        is_peer(&self.allowed, peer) && self.connections.lacks_place(peer_number(peer))
+    }
+
     // Opens a connection that was accepted, or ends another to make room for it: then it is opened in
     // the next step of a listener.
     #[tactic(auto, using(crate::proofs::Places::at_or_displaced))]
@@ -116,8 +151,11 @@ impl OpenSockets {
         requires { listener < vec_len self.old.listeners }
         ensures lawful { IsLawful (standing_of self.old) (standing_of self.new) 0 result }
         ensures at { IsAtOrDisplaced listener result }
+        // No connection ends for one whose peer may not send.
+        ensures elsewhere { is_peer (networks_of self.old.allowed) accepted.1 ≡ false
+            → result ≡ NotAllowed listener accepted.1 }
     {
-        if !self.connections.lacks_place(peer_number(accepted.1)) {
+        if !self.lacks_place(accepted.1) {
             return self.admit(listener, framing, accepted, now);
         }
         let Some(conn) = self.connections.find_displaced(now) else {
@@ -188,17 +226,30 @@ impl OpenSockets {
         let taken = match accept_from(socket) {
             Ok((stream, peer)) => {
                 drop(stream);
-                let step = ServerStep::TurnedAway {
-                    listener,
-                    framing,
-                    peer,
-                };
-                Taken::some(step, Retry::Now)
+                Taken::some(self.closed(listener, framing, peer), Retry::Now)
             }
             Err(_) => Taken::none(Retry::Later),
         };
         self.spare = spare_descriptor();
         taken
+    }
+
+    // The step of a datagram of so many octets: if its sender may not send, it is thrown away.
+    fn received(&self, listener: usize, peer: Option<SocketAddr>, len: usize) -> ServerStep
+        requires { listener < vec_len self.now.listeners }
+        ensures lawful { IsLawful (standing_of self.now) (standing_of self.now) len result }
+        ensures at { IsAt listener result }
+    {
+        match peer {
+            Some(peer) if !is_peer(&self.allowed, peer) => {
+                ServerStep::NotAllowed { listener, peer }
+            }
+            peer => ServerStep::Datagram {
+                listener,
+                peer,
+                len,
+            },
+        }
     }
 
     // Receives a datagram.
@@ -210,14 +261,7 @@ impl OpenSockets {
             return Taken::none(Retry::Reported);
         };
         match receive(socket, *addressed, buf) {
-            Ok((len, peer)) => {
-                let step = ServerStep::Datagram {
-                    listener,
-                    peer,
-                    len,
-                };
-                Taken::some(step, Retry::Now)
-            }
+            Ok((len, peer)) => Taken::some(self.received(listener, peer, len), Retry::Now),
             Err(refusal) => Taken::none(retry_of(refusal)),
         }
     }

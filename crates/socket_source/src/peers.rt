@@ -1,17 +1,15 @@
 //! How many connections each address has.
 ghost use Rattle.std.specs.Prelude.{◌≡◌, ◌+◌, ◌-◌, ◌^◌, min, IfOk, OnErr, OnOk};
 
+use peer_rules::address_number;
 use std::alloc::{AllocError, Global};
 use std::collections::BTreeMap;
-use std::net::{IpAddr, SocketAddr};
+use std::net::SocketAddr;
 
 /// The address of a peer as a number: that of IPv6. One of IPv4 counts as the one of IPv6 that stands
 /// for it.
 pub(crate) fn peer_number(peer: SocketAddr) -> u128 {
-    match peer.ip() {
-        IpAddr::V4(ip) => ip.to_ipv6_mapped().to_bits(),
-        IpAddr::V6(ip) => ip.to_bits(),
-    }
+    address_number(peer.ip())
 }
 
 /// How many connections each address has. One that has none takes no room.

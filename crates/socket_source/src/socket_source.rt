@@ -1,5 +1,6 @@
 //! The sockets of the system as a source of steps.
 ghost use Rattle.std.specs.Prelude.{◌≡◌, ◌≤◌, length, max, min, IfErr, IfOk, None};
+ghost use Rattle.peer_rules.specs.AllowLists.{networks_of};
 ghost use Rattle.socket_source.specs.Opens.{IsFaultOf};
 ghost use Rattle.socket_source.specs.Steps.{IsFresh};
 
@@ -11,6 +12,7 @@ use crate::options::SourceOptions;
 use crate::sockets::Sockets;
 use crate::source::ServerSource;
 use crate::step::ServerStep;
+use peer_rules::AllowList;
 use std::alloc::Global;
 use std::net::{Net, SocketAddr};
 use std::rt::{Clock, Files};
@@ -29,20 +31,23 @@ pub struct SocketSource<'a, R> {
 
 impl<'a, R: Net + Files + Clock> SocketSource<'a, R> {
     /// Opens the sockets of all listeners, in their order. Inherited descriptors are checked before
-    /// anything is opened; so call this before files are opened. It fails as the variants of
-    /// [`OpenFault`] say.
+    /// anything is opened; so call this before files are opened. Peers that have addresses may send
+    /// only if the list allows it, over TCP and UDP; a socket at a path is open to all. It fails as the
+    /// variants of [`OpenFault`] say.
     pub fn open(
         rt: &'a R,
         alloc: Global,
         listeners: &[Listener<'_>],
+        allowed: AllowList,
         options: SourceOptions,
     ) -> Result<SocketSource<'a, R>, OpenFault>
         ensures fresh { IfOk result (λ source. IsFresh (⟦<SocketSource<'a, R> as ServerSource>⟧.state source)
-            (max 1 (min options.connections CONNECTIONS_MAX)) (length listeners.now) None) }
+            (max 1 (min options.connections CONNECTIONS_MAX)) (length listeners.now)
+            (networks_of allowed) None) }
         // A listener's fault is that of one of these, and nobody asks about standard input in vain.
         ensures told { IfErr result (IsFaultOf (length listeners.now) options.until_eof) }
     {
-        match Sockets::open(rt, alloc, listeners, options) {
+        match Sockets::open(rt, alloc, listeners, allowed, options) {
             Ok(sockets) => Ok(SocketSource {
                 sockets,
                 counts: StepCounts::new(),

@@ -21,6 +21,7 @@ use crate::share::Share;
 use crate::step::{ConnectionEnd, ServerStep, SourceFault};
 use crate::system::spare_descriptor;
 use mio::{Events, Poll};
+use peer_rules::AllowList;
 use std::alloc::Global;
 use std::net::Net;
 use std::rt::{Clock, Files};
@@ -392,6 +393,7 @@ impl<'a, R: Clock> Sockets<'a, R> {
 
 impl<'a, R: Net + Files + Clock> Sockets<'a, R> {
     ghost use Rattle.std.specs.Prelude.{map};
+    ghost use Rattle.peer_rules.specs.AllowLists.{networks_of};
     ghost use Rattle.socket_source.specs.Kinds.{is_datagrams};
     ghost use Rattle.socket_source.specs.Standings.{standing};
 
@@ -400,10 +402,12 @@ impl<'a, R: Net + Files + Clock> Sockets<'a, R> {
         rt: &'a R,
         alloc: Global,
         listeners: &[Listener<'_>],
+        allowed: AllowList,
         options: SourceOptions,
     ) -> Result<Sockets<'a, R>, OpenFault>
         ensures vacant { IfOk result (λ sockets. IsVacant (standing sockets)
-            (max 1 (min options.connections CONNECTIONS_MAX)) (length listeners.now)) }
+            (max 1 (min options.connections CONNECTIONS_MAX)) (length listeners.now)
+            (networks_of allowed)) }
         ensures kinds { IfOk result (λ sockets. sockets.ready.kinds.items
             ≡ map is_datagrams sockets.held.listeners.items) }
         ensures told { IfErr result (IsFaultOf (length listeners.now) options.until_eof) }
@@ -430,6 +434,7 @@ impl<'a, R: Net + Files + Clock> Sockets<'a, R> {
                 poll,
                 listeners: bound,
                 connections: Connections::new(alloc, limit, options.per_peer, now)?,
+                allowed,
                 spare: spare_descriptor(),
                 arrived: None,
             },

@@ -62,6 +62,12 @@ pub enum ServerStep {
         framing: Framing,
         peer: SocketAddr,
     },
+    /// A connection or a datagram came to a listener from an address that may not send: the connection was
+    /// closed before anything of it was read, the datagram is thrown away.
+    NotAllowed {
+        listener: usize,
+        peer: SocketAddr,
+    },
     /// The time of a period is up, or the last step read octets and a tick is to follow it.
     Tick,
     /// Standard input has ended. What waits in the sockets may still come.

@@ -10,6 +10,7 @@ use crate::time::ServerTime;
 use driver::{NO_MEMORY, report};
 use folder_disk::FolderDisk;
 use octet_devices::ToWrite;
+use peer_rules::AllowList;
 use serve_engine::{ServeEnd, ServeOptions, Server};
 use server_words::{InheritedKind, ListenerWords, ServeWords};
 use socket_source::{Inherited, Listener, OpenFault as SocketFault, SocketSource, SourceOptions};
@@ -73,6 +74,15 @@ fn listeners<'a>(alloc: Global, words: &ServeWords<'a>) -> Result<Vec<Listener<'
     Ok(all)
 }
 
+// Who may send.
+fn allowed(alloc: Global, words: &ServeWords<'_>) -> Result<AllowList, AllocError> {
+    let mut list = AllowList::new(alloc);
+    for network in &words.allowed {
+        list.add(*network)?;
+    }
+    Ok(list)
+}
+
 fn source_options(words: &ServeWords<'_>) -> SourceOptions {
     SourceOptions {
         connections: words.options.connections as usize,
@@ -96,7 +106,10 @@ fn open_sockets<'a>(
     let Ok(listeners) = listeners(rt.alloc(), words) else {
         return Err(teller.out_of_memory());
     };
-    match SocketSource::open(rt, rt.alloc(), &listeners, source_options(words)) {
+    let Ok(allowed) = allowed(rt.alloc(), words) else {
+        return Err(teller.out_of_memory());
+    };
+    match SocketSource::open(rt, rt.alloc(), &listeners, allowed, source_options(words)) {
         Ok(source) => Ok(source),
         Err(SocketFault::Listener { listener, cause }) => match words.listeners.get(listener) {
             Some(one) => match place_of(rt.alloc(), one) {
@@ -154,6 +167,7 @@ fn serve_options(words: &ServeWords<'_>) -> ServeOptions {
     ServeOptions {
         checkpoint_len: u64::from(words.options.checkpoint_mib) << 20,
         count_millis: COUNT_MILLIS,
+        counts_not_allowed: !words.allowed.is_empty(),
     }
 }
 

@@ -1,6 +1,4 @@
-use Rattle.std.proofs.Common.{◌≡◌, ◌∙◌, List, ap, map, option_map, subst, sym}
-use Rattle.std.specs.Prelude.{IfOk, Option}
-use Rattle.std.specs.Result.{result_ok}
+use Rattle.std.proofs.Common.{◌∙◌, List, ap, map}
 use Rattle.std.proofs.lemmas.Result.{IfOk-weaker}
 use Rattle.clap.specs.Words.{found_of, rows_of}
 use Rattle.server_words.specs.Listeners.{ListenerAsked, all_asked, listener_asked}

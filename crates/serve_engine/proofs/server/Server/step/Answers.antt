@@ -37,6 +37,13 @@ returns-in-TurnedAway-clause-served g c = (
   serves_nothing _ _ _ _ c.args.step _ _ _ _ _ (rw c.in-TurnedAway.is refl) (rw c.in-TurnedAway.is refl) c.turned_away.ensures.same c.turned_away.ensures.turn,
 )
 
+pub returns-in-NotAllowed-clause-served : goal.returns-in-NotAllowed-clause-served
+returns-in-NotAllowed-clause-served g c = (
+  false,
+  rw c.in-NotAllowed.is refl,
+  serves_nothing _ _ _ _ c.args.step _ _ _ _ _ (rw c.in-NotAllowed.is refl) (rw c.in-NotAllowed.is refl) c.not_allowed.ensures.same c.not_allowed.ensures.turn,
+)
+
 pub returns-in-InputEnded-clause-served : goal.returns-in-InputEnded-clause-served
 returns-in-InputEnded-clause-served g c = (
   false,

@@ -1,5 +1,6 @@
 use Rattle.std.proofs.Common.{◌∙◌, ◌<◌, length, sym, ap, arith, rules, Some}
 use Rattle.std.proofs.lemmas.List.{length-map}
+use Rattle.peer_rules.specs.AllowLists.{networks_of}
 use Rattle.socket_source.specs.Scripts.{listed_item, standing_by}
 use Rattle.socket_source.specs.Steps.{Given, may_come}
 use Rattle.socket_source.proofs.Listing.{listed_at}
@@ -13,7 +14,7 @@ note-requires c =
     let within : c.in-Some.at < length items = omega (arith, found.within, length-map items listed_item) in
     let here = listed_at items c.in-Some.at c.index.result.now c.deref.result.now within c.index.ensures
     c.deref.ensures.value in
-    let s = standing_by source.flags.items source.listeners in
+    let s = standing_by source.flags.items source.listeners (networks_of source.allowed) in
     let room : 0 < length c.give-step.new.buf = search rules in
     c.give-step.ensures.may s room ∙ ap (λ (g : Given). may_come s g.step) here ∙ found.may
 
@@ -25,7 +26,7 @@ returns-clause-lawful c =
     let within : c.in-Some.at < length items = omega (arith, found.within, length-map items listed_item) in
     let here = listed_at items c.in-Some.at c.index.result.now c.deref.result.now within c.index.ensures
     c.deref.ensures.value in
-    let s = standing_by source.flags.items source.listeners in
+    let s = standing_by source.flags.items source.listeners (networks_of source.allowed) in
     let room : 0 < length c.give-step.new.buf = search rules in
     record {
       within = c.give-step.ensures.within;
