@@ -2,6 +2,7 @@
 use Rattle.std.specs.Prelude.{◌≡◌, ℕ, ◌^◌, ◌<◌, ◌≤◌, List, Option, None, Some, ⊤, length}
 use Rattle.std.specs.List.{AllByRecursion}
 use Rattle.hex.specs.Hex.{IsBytes}
+use Rattle.archive_text.specs.declared.limits.TheConstants.{ENTRY_MAX}
 use Rattle.archive_tree.specs.declared.audit_path.AuditPath.{AuditPath}
 use Rattle.archive_proof.specs.declared.proof.Neighbour.{Neighbour}
 use Rattle.archive_proof.specs.declared.proof.Proof.{Proof}
@@ -30,3 +31,17 @@ IsSide (Some n) = IsNeighbour n
 abbrev pub IsProof : Proof → Type 0
 IsProof (Present path) = IsPath path
 IsProof (Absent before behind) = IsSide before × IsSide behind
+
+-- octets that an entry of an archive may have
+abbrev pub IsShortSide : Option Neighbour → Type 0
+IsShortSide None = ⊤
+IsShortSide (Some n) = length n.octets.items ≤ ENTRY_MAX
+
+abbrev pub IsShort : Proof → Type 0
+IsShort (Present path) = ⊤
+IsShort (Absent before behind) = IsShortSide before × IsShortSide behind
+
+-- it may be written as a proof, and its neighbours are no longer than entries of an archive
+pub record IsMade (p : Proof) : Type 0 where
+  pub proof : IsProof p
+  pub short : IsShort p
