@@ -11,3 +11,4 @@ pub mod Readable
 pub mod Endings
 pub mod Readings
 pub mod Answerings
+pub mod Confirmations

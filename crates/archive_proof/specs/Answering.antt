@@ -5,7 +5,7 @@ use Rattle.archive_text.specs.Entries.{Entry, Has, IsEntry}
 use Rattle.archive_text.specs.Text.{IsArchive}
 use Rattle.archive_tree.specs.Archives.{IsRootOf}
 use Rattle.archive_tree.specs.declared.head.TreeHead.{TreeHead}
-use Rattle.archive_proof.specs.Reading.{IsProof}
+use Rattle.archive_proof.specs.Reading.{IsOnlyProof, IsProof}
 use Rattle.archive_proof.specs.Showing.{Collides, ShowsAbsent, ShowsPresent}
 use Rattle.archive_proof.specs.Texts.{proof_text}
 use Rattle.archive_proof.specs.declared.proof.Answer.{Answer}
@@ -33,6 +33,12 @@ AllSay head es ps answers = ⊥
 abbrev pub HasNoProof : List ℕ → Type 0
 HasNoProof text = (p : Proof) (rest : List ℕ) → IsProof p → ¬ (text ≡ proof_text p ++ rest)
 
+-- the text begins with these proofs, and no others, one behind the other
+abbrev pub AreRead : List ℕ → List Proof → Type 0
+AreRead text [] = Unit {0}
+AreRead text (p ∷ ps) =
+    (behind : List ℕ) × (text ≡ proof_text p ++ behind) × IsOnlyProof text p behind × AreRead behind ps
+
 -- what is left behind so many proofs: the rest of the text, if there is one for each entry; else no further one follows
 abbrev pub IsLeft : ℕ → ℕ → List ℕ → Option (List ℕ) → Type 0
 IsLeft entries proofs rest (Some left) = (proofs ≡ entries) × (left ≡ rest)
@@ -44,6 +50,7 @@ pub record AreAnswered (head : TreeHead) (es : List Entry) (text : List ℕ) (an
   pub ps : List Proof
   pub rest : List ℕ
   pub begins : text ≡ flat_map proof_text ps ++ rest
+  pub read : AreRead text ps
   pub says : AllSay head es ps answers
   pub is_left : IsLeft (length es) (length ps) rest left
 
@@ -51,4 +58,15 @@ pub record AreAnswered (head : TreeHead) (es : List Entry) (text : List ℕ) (an
 abbrev pub AnswersNext : TreeHead → Entry → Option (List ℕ) → Answer → Option (List ℕ) → Type 0
 AnswersNext head e None a left = (a ≡ answer.NotShown) × (left ≡ None)
 AnswersNext head e (Some text) a None = (a ≡ answer.NotShown) × HasNoProof text
-AnswersNext head e (Some text) a (Some left) = (p : Proof) × (text ≡ proof_text p ++ left) × Says head e p a
+AnswersNext head e (Some text) a (Some left) = 
+    (p : Proof) × (text ≡ proof_text p ++ left) × IsOnlyProof text p left × Says head e p a
+
+-- what is answered of an entry is whether it is one of these
+abbrev pub IsRight : List Entry → Entry → Answer → Type 0
+IsRight xs e a = (Has xs e × (a ≡ answer.Present)) ⊎ ((¬ (Has xs e)) × (a ≡ answer.Absent))
+
+-- of each of the entries
+abbrev pub AreRight : List Entry → List Entry → List Answer → Type 0
+AreRight xs [] [] = Unit {0}
+AreRight xs (e ∷ es) (a ∷ answers) = IsRight xs e a × AreRight xs es answers
+AreRight xs es answers = ⊥

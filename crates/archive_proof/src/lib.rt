@@ -9,6 +9,7 @@
 mod answering;
 mod asked;
 mod climb;
+mod laws;
 mod made;
 mod proof;
 mod prover;
@@ -20,6 +21,7 @@ mod writing;
 
 pub use answering::confirm_all;
 pub use asked::{AskFault, AskedRecord};
+pub use laws::proofs_that_are_made_are_confirmed;
 pub use proof::{Answer, Neighbour, Proof};
 pub use prover::{Prover, ProverFault};
 pub use reading::read_proof;
