@@ -1,10 +1,11 @@
 -- Texts of records that are asked for.
 use Rattle.std.proofs.Common.{◌≡◌, ℕ, ◌<◌, ◌≤◌, List, [], ◌∷◌, ◌++◌, length, refl, sym, ap, subst}
 use Rattle.std.proofs.Common.{arith, length-append}
+use Rattle.std.specs.List.{AllByRecursion}
 use Rattle.std.specs.Prelude.{decimal}
 use Rattle.syslog_frame.specs.Frames.{framed}
 use Rattle.syslog_frame.specs.declared.framing.Framing.TheVariants.{Counted}
-use Rattle.archive_text.specs.Entries.{Entry}
+use Rattle.archive_text.specs.Entries.{Entry, IsEntry}
 use Rattle.archive_text.specs.Faults.{IsCountFault}
 use Rattle.archive_text.specs.Positions.{position_of}
 use Rattle.archive_text.specs.declared.fault.ArchiveFault.{ArchiveFault}
@@ -61,3 +62,10 @@ pub entries_pushed : (rs : List AskedRecord) (r : AskedRecord) → asked_entries
     ++ asked_entry r ∷ []
 entries_pushed [] r = refl
 entries_pushed (x ∷ rs) r = ap (λ (l : List Entry). asked_entry x ∷ l) (entries_pushed rs r)
+
+-- records that are asked for are entries
+pub asked_are_entries : (text : List ℕ) (es : List Entry) (rest : List ℕ) → AreAskedIn text es rest
+    → AllByRecursion IsEntry es
+asked_are_entries text [] rest same = tt
+asked_are_entries text (e ∷ es) rest (behind, (first, others)) =
+    ((first.asked.parts, first.asked.entry), asked_are_entries behind es rest others)

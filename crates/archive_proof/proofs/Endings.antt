@@ -1,5 +1,5 @@
 -- The proofs that are made when all entries have come.
-use Rattle.std.proofs.Common.{◌≡◌, ℕ, zero, suc, ◌+◌, ◌^◌, ◌<◌, ◌⊎◌, inl, inr, List, [], ◌∷◌, ◌++◌, length, refl}
+use Rattle.std.proofs.Common.{◌≡◌, ℕ, zero, suc, ◌+◌, ◌^◌, ◌<◌, ◌≤◌, ◌⊎◌, inl, inr, List, [], ◌∷◌, ◌++◌, length, refl}
 use Rattle.std.proofs.Common.{sym, ap, subst, ◌∙◌, arith, length-append}
 use Rattle.std.specs.Prelude.{Some, None, Option, Vec, ℤ, codes}
 use Rattle.std.specs.List.{AllByRecursion, flat_map}
@@ -9,6 +9,7 @@ use Rattle.syslog_value.specs.Parts.{Parts as RecordParts}
 use Rattle.syslog_fields.specs.Canonical.{Canonical, HeaderForm}
 use Rattle.archive_text.specs.Entries.{Entry, Has, IsAscending, IsEntry}
 use Rattle.archive_text.proofs.Members.{of_member}
+use Rattle.archive_text.specs.declared.limits.TheConstants.{ENTRY_MAX}
 use Rattle.archive_tree.proofs.Archives.{count_of_texts}
 use Rattle.archive_tree.specs.Tree.{audit_path, tree_hash}
 use Rattle.archive_tree.specs.Trees.{AtOnePlace, IsFollowed}
@@ -21,6 +22,7 @@ use Rattle.archive_proof.specs.Asking.{asked_entries, asked_entry}
 use Rattle.archive_proof.specs.Entries.{IsEntryAt}
 use Rattle.archive_proof.specs.Making.{made_side, made_text, made_texts}
 use Rattle.archive_proof.specs.Proving.{AreProofsOf, ArePlaced, HasBefore, IsPlaced, IsProofOf, IsTracked}
+use Rattle.archive_proof.specs.Reading.{IsMade, IsPath, IsShortSide, IsSide}
 use Rattle.archive_proof.specs.Showing.{Leads, Parts, StandsBefore, StandsBehind}
 use Rattle.archive_proof.specs.Texts.{beside_text, proof_text, side_text}
 use Rattle.archive_proof.specs.declared.asked.AskedRecord.{AskedRecord}
@@ -31,6 +33,7 @@ use Rattle.archive_proof.specs.declared.search.Place.{Place}
 use Rattle.archive_proof.specs.declared.search.Place.TheVariants.{Ahead, Found, Passed}
 use Rattle.archive_proof.specs.declared.search.Search.{Search}
 use Rattle.archive_proof.proofs.Makings.{leads_up}
+use Rattle.archive_proof.proofs.Readable.{path_is}
 use Rattle.archive_proof.proofs.Places.{above_last, below_first, between, entry_is_in}
 
 canonical_some : (r : RecordParts ℤ) (b : List ℕ) → Canonical r b → 0 < length b
@@ -118,7 +121,8 @@ passed_absent r t s p q xs order (i, (e, (above, same, k, inr (j, (f, (next, bel
     between xs j f e r order m.at (subst (λ (n : ℕ). IsEntryAt xs n e) (sym next) k.at) below above held
 
 module _ (head : TreeHead) (t : TreeStream) (xs : List Entry) (room : length xs < 2 ^ 64) (is : IsRootOf head xs)
-    (order : IsAscending xs) (all : AllByRecursion IsEntry xs) where
+    (order : IsAscending xs) (all : AllByRecursion IsEntry xs)
+    (fits : AllByRecursion (λ (e : Entry). length e.octets ≤ ENTRY_MAX) xs) where
   -- the path of an entry that was tracked leads to the root
   tracked_end : (i : ℕ) (e : Entry) (p q : AuditPath) → Ends t p q → IsTracked t p i e xs xs
       → (q.index ≡ i) × Leads head e.octets q
@@ -219,14 +223,60 @@ module _ (head : TreeHead) (t : TreeStream) (xs : List Entry) (room : length xs 
         (beside_keeps s.before.items s.before v refl) (beside_keeps s.behind.items s.behind w refl) h,
   )
 
+  -- ---- and that it can be read
+
+  tracked_path : (i : ℕ) (e : Entry) (p q : AuditPath) → Ends t p q → IsTracked t p i e xs xs → IsPath q
+  tracked_path i e p q ends h =
+      let here : i < length xs = within xs i e h.at in
+      let few : length (texts_of xs) < 2 ^ 64 = omega (arith, count_of_texts xs, room) in
+      let done = ends i (texts_of xs) few h.followed (omega (arith, here, count_of_texts xs)) in
+      path_is xs i q room here done.0 done.1
+
+  short_octets : (i : ℕ) (e : Entry) (o : List ℕ) → IsEntryAt xs i e → o ≡ e.octets → length o ≤ ENTRY_MAX
+  short_octets i e o at same =
+      subst (λ (l : List ℕ). length l ≤ ENTRY_MAX) (sym same)
+      (of_member (λ (x : Entry). length x.octets ≤ ENTRY_MAX) xs e fits (entry_is_in xs i e at))
+
+  abbrev MadeSide : Option Neighbour → Type 0
+  MadeSide o = IsSide o × IsShortSide o
+
+  no_side : (l : List ℕ) (octets : Vec ℕ Global) (q : AuditPath) → l ≡ [] → MadeSide (beside l octets q)
+  no_side [] octets q none = (tt, tt)
+  no_side (x ∷ l) octets q none = absurd (omega (arith, ap (λ (o : List ℕ). length o) none))
+
+  one_side : (l : List ℕ) (octets : Vec ℕ Global) (q : AuditPath) → octets.items ≡ l → length octets.items ≤ ENTRY_MAX
+      → IsPath q → MadeSide (beside l octets q)
+  one_side [] octets q same short path = (tt, tt)
+  one_side (x ∷ l) octets q same short path = (record { size = omega (arith, short); path = path }, short)
+
+  before_made : (r : Entry) (s : Search) (p v : AuditPath) (i : ℕ) → Ends t p v → HasBefore r t s p i xs xs
+      → MadeSide (beside s.before.items s.before v)
+  before_made r s p v i ends (inl none) = no_side s.before.items s.before v none.1
+  before_made r s p v i ends (inr (j, (e, (next, below, same, k)))) =
+      one_side s.before.items s.before v refl (short_octets j e s.before.items k.at same) (tracked_path j e p v ends k)
+
+  made_is : (place : Place) (r : Entry) (s : Search) (p q v w : AuditPath) → Ends t p v → Ends t q w
+      → IsPlaced place r t s p q xs xs → IsMade (made_proof place s v w)
+  made_is Found r s p q v w first second (i, h) = record { proof = tracked_path i r p v first h; short = tt }
+  made_is Ahead r s p q v w first second h =
+      let before = before_made r s p v (length xs) first h.1 in
+      let behind = no_side s.behind.items s.behind w h.0 in
+      record { proof = (before.0, behind.0); short = (before.1, behind.1) }
+  made_is Passed r s p q v w first second (i, (e, (above, same, k, h))) =
+      let before = before_made r s p v i first h in
+      let behind = one_side s.behind.items s.behind w refl (short_octets i e s.behind.items k.at same)
+      (tracked_path i e q w second k) in
+      record { proof = (before.0, behind.0); short = (before.1, behind.1) }
+
   -- the texts of the proofs of all records
   abbrev pub Made : List AskedRecord → List Search → List AuditPath → Type 0
   Made rs ss new =
-      (ps : List Proof) × AreProofsOf head xs (asked_entries rs) ps × (made_texts ss new ≡ flat_map proof_text ps)
+      (ps : List Proof) × AreProofsOf head xs (asked_entries rs) ps × AllByRecursion IsMade ps
+      × (made_texts ss new ≡ flat_map proof_text ps)
 
   pub all_end : (rs : List AskedRecord) (ss : List Search) (old new : List AuditPath) → Finishes t old new
       → length new ≡ length old → ArePlaced t xs xs rs ss old → Made rs ss new
-  all_end [] [] [] [] ends same h = ([], tt, refl)
+  all_end [] [] [] [] ends same h = ([], tt, tt, refl)
   all_end [] [] [] (v ∷ new) ends same h = absurd (omega (arith, same))
   all_end [] [] (p ∷ old) new ends same h = absurd h
   all_end [] (s ∷ ss) old new ends same h = absurd h
@@ -245,8 +295,14 @@ module _ (head : TreeHead) (t : TreeStream) (xs : List Entry) (room : length xs 
               (λ index ts fits follows here. ends index q w ts (inr (inl (refl, refl))) fits follows here) h.0,
           rest.1,
         ),
+        (
+          made_is s.place (asked_entry r) s p q v w
+              (λ index ts fits follows here. ends index p v ts (inl (refl, refl)) fits follows here)
+              (λ index ts fits follows here. ends index q w ts (inr (inl (refl, refl))) fits follows here) h.0,
+          rest.2,
+        ),
         ap (λ (l : List ℕ). l ++ made_texts ss new) (text_is s.place s v w)
-            ∙ ap (λ (l : List ℕ). proof_text (made_proof s.place s v w) ++ l) rest.2,
+            ∙ ap (λ (l : List ℕ). proof_text (made_proof s.place s v w) ++ l) rest.3,
       )
 
 -- ---- searches without paths

@@ -7,5 +7,8 @@ pub mod Standing
 pub mod Theorems
 pub mod Askings
 pub mod Makings
+pub mod Readable
 pub mod Endings
 pub mod Readings
+pub mod Answerings
+pub mod Confirmations

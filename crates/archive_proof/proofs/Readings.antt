@@ -2,7 +2,7 @@
 use Rattle.std.proofs.Common.{◌≡◌, ◌≢◌, ℕ, zero, suc, ◌+◌, ◌-◌, ◌^◌, ◌<◌, ◌≤◌}
 use Rattle.std.proofs.Common.{List, [], ◌∷◌, ◌++◌, length, take, drop, get_or, refl, sym, ap, subst, ◌∙◌, arith}
 use Rattle.std.proofs.Common.{length-append, append_assoc}
-use Rattle.std.specs.Prelude.{Option, Some, None, Result, Ok, Err, MatchOption, MatchResult, decimal}
+use Rattle.std.specs.Prelude.{Option, Some, None, Result, Ok, Err, MatchOption, MatchResult, codes, decimal}
 use Rattle.std.specs.List.{AllByRecursion, flat_map}
 use Rattle.std.proofs.lemmas.List.{take_at, drop_at, take_all}
 use Rattle.std.proofs.lemmas.Bool.Decides.{Decides-eqb}
@@ -14,9 +14,11 @@ use Rattle.octet_language.proofs.Decimal.{digits_decimal}
 use Rattle.octet_language.proofs.Lists.{AllByRecursion-weaker}
 use Rattle.std.proofs.lemmas.List.{append_cancel_left}
 use Rattle.archive_tree.specs.declared.audit_path.AuditPath.{AuditPath}
-use Rattle.archive_proof.specs.Reading.{IsHash, IsNeighbour, IsSide}
-use Rattle.archive_proof.specs.Texts.{hash_line, neighbour_text, path_text, side_text}
+use Rattle.archive_proof.specs.Reading.{AreSame, AreSameSides, IsHash, IsNeighbour, IsSide}
+use Rattle.archive_proof.specs.Texts.{hash_line, neighbour_text, path_text, proof_text, side_text}
 use Rattle.archive_proof.specs.declared.proof.Neighbour.{Neighbour}
+use Rattle.archive_proof.specs.declared.proof.Proof.{Proof}
+use Rattle.archive_proof.specs.declared.proof.Proof.TheVariants.{Present, Absent}
 
 -- ---- up to an octet
 
@@ -152,16 +154,33 @@ same_path p q e f = ap (λ (i : ℕ). made i p.hashes.items) e ∙ ap (λ (hs : 
 
 -- ---- neighbours
 
-pub same_text : (a b : Neighbour) → a.octets.items ≡ b.octets.items → a.path ≡ b.path
+same_text : (a b : Neighbour) → a.octets.items ≡ b.octets.items → a.path ≡ b.path
     → neighbour_text a ≡ neighbour_text b
 same_text a b e f =
     ap (λ (o : List ℕ). decimal (length o) ++ 32 ∷ o ++ 10 ∷ path_text a.path) e
     ∙ ap (λ (p : AuditPath). decimal (length b.octets.items) ++ 32 ∷ b.octets.items ++ 10 ∷ path_text p) f
 
+same_sides_text : (word : List ℕ) (a b : Option Neighbour) → AreSameSides a b → side_text word a ≡ side_text word b
+same_sides_text word None None same = refl
+same_sides_text word (Some a) (Some b) same = ap (λ (l : List ℕ). word ++ l) (same_text a b same.0 same.1)
+same_sides_text word None (Some b) same = absurd same
+same_sides_text word (Some a) None same = absurd same
+
+-- the same proofs have the same text
+pub same_proof_text : (p q : Proof) → AreSame p q → proof_text p ≡ proof_text q
+same_proof_text (Present p) (Present q) same = ap (λ (r : AuditPath). proof_text (Present r)) same
+same_proof_text (Present p) (Absent c d) same = absurd same
+same_proof_text (Absent a b) (Present q) same = absurd same
+same_proof_text (Absent a b) (Absent c d) same =
+    ap (λ (l : List ℕ). codes "absent\n" ++ l ++ side_text (codes "behind ") b ++ 10 ∷ [])
+    (same_sides_text (codes "before ") a c same.0)
+    ∙ ap (λ (l : List ℕ). codes "absent\n" ++ side_text (codes "before ") c ++ l ++ 10 ∷ [])
+    (same_sides_text (codes "behind ") b d same.1)
+
 -- a text that does not begin with the word has no neighbour
 pub no_word : (word text rest : List ℕ) (o : Option Neighbour) → text ≡ side_text word o ++ rest
-    → ((more : List ℕ) → ¬ (text ≡ word ++ more)) → ([] ≡ side_text word o) × (text ≡ rest)
-no_word word text rest None is none = (refl, is)
+    → ((more : List ℕ) → ¬ (text ≡ word ++ more)) → AreSameSides None o × (text ≡ rest)
+no_word word text rest None is none = (tt, is)
 no_word word text rest (Some n) is none =
     absurd (none (neighbour_text n ++ rest) (is ∙ append_assoc word (neighbour_text n) rest))
 

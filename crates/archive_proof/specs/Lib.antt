@@ -6,3 +6,4 @@ pub mod Proving
 pub mod Texts
 pub mod Making
 pub mod Reading
+pub mod Answering

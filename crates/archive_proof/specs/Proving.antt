@@ -1,6 +1,6 @@
 -- Proofs under way.
-use Rattle.std.specs.Prelude.{◌≡◌, ℕ, suc, List, [], ◌∷◌, ◌⊎◌, length}
-use Rattle.std.specs.List.{AllByRecursion}
+use Rattle.std.specs.Prelude.{◌≡◌, ℕ, suc, ◌*◌, ◌≤◌, List, [], ◌∷◌, ◌⊎◌, length}
+use Rattle.std.specs.List.{AllByRecursion, flat_map}
 use Rattle.archive_text.specs.Entries.{Entry, Has, IsBelow}
 use Rattle.archive_text.specs.Text.{IsArchive}
 use Rattle.archive_text.specs.declared.limits.TheConstants.{ENTRY_MAX}
@@ -11,9 +11,12 @@ use Rattle.archive_tree.specs.declared.stream.TreeStream.{TreeStream}
 use Rattle.archive_tree.specs.Archives.{texts_of}
 use Rattle.archive_proof.specs.Asking.{asked_entries, asked_entry}
 use Rattle.archive_proof.specs.Entries.{IsEntryAt}
+use Rattle.archive_proof.specs.Reading.{IsMade}
 use Rattle.archive_proof.specs.Showing.{ShowsAbsent, ShowsPresent}
+use Rattle.archive_proof.specs.Texts.{proof_text}
 use Rattle.archive_proof.specs.declared.asked.AskedRecord.{AskedRecord}
 use Rattle.archive_proof.specs.declared.proof.Proof.{Proof}
+use Rattle.archive_proof.specs.declared.writing.TheConstants.{PROOF_MAX}
 use Rattle.archive_proof.specs.declared.search.Place.{Place}
 use Rattle.archive_proof.specs.declared.search.Place.TheVariants.{Ahead, Found, Passed}
 use Rattle.archive_proof.specs.declared.search.Search.{Search}
@@ -72,3 +75,11 @@ abbrev pub AreProofsOf : TreeHead → List Entry → List Entry → List Proof �
 AreProofsOf head xs [] [] = Unit {0}
 AreProofsOf head xs (e ∷ es) (p ∷ ps) = IsProofOf head xs e p × AreProofsOf head xs es ps
 AreProofsOf head xs es ps = ⊥
+
+-- a text of proofs, which can be read, one for each of the records, in their order. It is not too long
+pub record IsTextOfProofs (head : TreeHead) (xs rs : List Entry) (text : List ℕ) : Type 0 where
+  pub ps : List Proof
+  pub proofs : AreProofsOf head xs rs ps
+  pub made : AllByRecursion IsMade ps
+  pub is_text : text ≡ flat_map proof_text ps
+  pub short : length text ≤ PROOF_MAX * length rs

@@ -53,12 +53,13 @@ pub(crate) fn put_all(
 ) -> Result<(), AllocError>
     ensures { OnOk result (text.new.items ≡ text.old.items ++ made_texts searches.now paths.now) }
 {
-    let [search, searches @ ..] = searches else {
-        return Ok(());
-    };
-    let [before, behind, paths @ ..] = paths else {
-        return Ok(());
-    };
-    put_made(text, search, before, behind)?;
-    put_all(text, searches, paths)
+    let mut rest = paths;
+    for search in searches {
+        let [before, behind, others @ ..] = rest else {
+            return Ok(());
+        };
+        put_made(text, search, before, behind)?;
+        rest = others;
+    }
+    Ok(())
 }

@@ -1,23 +1,45 @@
 //! Proofs are made, as the entries of an archive come.
 
-ghost use Rattle.std.specs.Prelude.{◌≡◌, [], ◌∷◌, ◌++◌, ◌+◌, ◌<◌, ◌^◌, List, IfOk, OnOk, length};
-ghost use Rattle.std.specs.List.{flat_map};
+ghost use Rattle.std.specs.Prelude.{◌≡◌, [], ◌∷◌, ◌++◌, ◌+◌, ◌<◌, ◌≤◌, ◌^◌, ◌↔◌, List, IfOk, IsErrOf, OnOk};
+ghost use Rattle.std.specs.Prelude.{length};
 ghost use Rattle.archive_text.specs.Entries.{Entry};
 ghost use Rattle.archive_text.specs.EntryViews.{entry_of};
 ghost use Rattle.archive_text.specs.Text.{IsArchive};
 ghost use Rattle.archive_text.specs.declared.limits.TheConstants.{ENTRY_MAX};
 ghost use Rattle.archive_tree.specs.Archives.{IsRootOf};
 ghost use Rattle.archive_proof.specs.Asking.{asked_entries};
-ghost use Rattle.archive_proof.specs.Proving.{AreFresh, AreProofsOf, IsProving};
-ghost use Rattle.archive_proof.specs.Texts.{proof_text};
-ghost use Rattle.archive_proof.specs.declared.proof.Proof.{Proof as Shown};
+ghost use Rattle.archive_proof.specs.Proving.{AreFresh, IsProving, IsTextOfProofs};
 
 use crate::asked::AskedRecord;
 use crate::made::put_all;
+use crate::records::ASKED_MAX;
 use crate::search::{Search, look_all};
 use archive_text::EntryView;
 use archive_tree::{AuditPath, TreeHead, TreeStream};
 use std::alloc::{AllocError, Global};
+use thiserror::Error;
+
+/// Why proofs are not begun.
+#[derive(Clone, Copy, Debug, PartialEq, Eq, Error)]
+pub enum ProverFault {
+    /// There are more than `ASKED_MAX` records.
+    #[error("more than {ASKED_MAX} records")]
+    TooMany,
+    /// An allocation failed.
+    #[error("out of memory")]
+    Memory,
+}
+
+impl From<AllocError> for ProverFault {
+    ghost use Rattle.std.specs.Prelude.{◌≡◌};
+    ghost use Rattle.archive_proof.specs.declared.prover.ProverFault.TheVariants.{Memory};
+
+    ghost from_gives = { λ _ fault. fault ≡ Memory };
+
+    fn from(_: AllocError) -> ProverFault {
+        ProverFault::Memory
+    }
+}
 
 /// Proofs of some records under way. The entries of the archive come in its order, each once for all
 /// of the records.
@@ -57,10 +79,16 @@ fn new_paths(alloc: Global, count: usize) -> Result<Vec<AuditPath>, AllocError>
 }
 
 impl Prover {
-    /// Proofs of some records before the first entry. It fails only when out of memory.
-    pub fn new(alloc: Global, asked: Vec<AskedRecord>) -> Result<Prover, AllocError>
-        ensures { IfOk result (λ prover. IsProving (asked_entries asked.items) prover []) }
+    /// Proofs of some records, at most `ASKED_MAX` of them, before the first entry. The refusals are
+    /// those of [`ProverFault`].
+    pub fn new(alloc: Global, asked: Vec<AskedRecord>) -> Result<Prover, ProverFault>
+        ensures begun { IfOk result (λ prover. IsProving (asked_entries asked.items) prover []) }
+        ensures few { IfOk result (λ _. length asked.items ≤ ASKED_MAX) }
+        ensures too_many { IsErrOf result ProverFault.TooMany ↔ (ASKED_MAX < length asked.items) }
     {
+        if asked.len() > ASKED_MAX {
+            return Err(ProverFault::TooMany);
+        }
         let searches = fresh(alloc, asked.len())?;
         let paths = new_paths(alloc, 2 * asked.len())?;
         Ok(Prover {
@@ -95,8 +123,7 @@ impl Prover {
         ensures head { IfOk result (λ made. (rs xs : List Entry) → length xs < 2 ^ 64
             → IsProving rs self xs → IsRootOf made.0 xs) }
         ensures text { IfOk result (λ made. (rs xs : List Entry) → length xs < 2 ^ 64
-            → IsProving rs self xs → (ps : List Shown) × AreProofsOf made.0 xs rs ps
-            × (made.1.items ≡ flat_map proof_text ps)) }
+            → IsProving rs self xs → IsTextOfProofs made.0 xs rs made.1.items) }
     {
         let head = self.tree.finish(self.paths.as_mut_slice());
         let mut text = Vec::new(alloc);

@@ -1,9 +1,10 @@
 //! Proofs are read.
 
-ghost use Rattle.std.specs.Prelude.{◌≡◌, ◌≢◌, ◌++◌, ◌∷◌, [], ◌+◌, ◌^◌, ◌<◌, ◌≤◌, ℕ, List, Option, IfOk, MatchOption};
-ghost use Rattle.std.specs.Prelude.{decimal, length};
+ghost use Rattle.std.specs.Prelude.{◌≡◌, ◌≢◌, ◌++◌, ◌∷◌, [], ◌+◌, ◌^◌, ◌<◌, ◌≤◌, ℕ, List, Option, IfOk, IfSome};
+ghost use Rattle.std.specs.Prelude.{MatchOption, decimal, length};
 ghost use Rattle.std.specs.List.{AllByRecursion, flat_map};
-ghost use Rattle.archive_proof.specs.Reading.{IsHash, IsNeighbour, IsPath, IsProof, IsSide};
+ghost use Rattle.archive_proof.specs.Reading.{AreSame, AreSameSides, IsHash, IsNeighbour, IsOnlyProof, IsPath};
+ghost use Rattle.archive_proof.specs.Reading.{IsProof, IsSide};
 ghost use Rattle.archive_proof.specs.Texts.{hash_line, neighbour_text, path_text, proof_text, side_text};
 ghost use Rattle.archive_tree.specs.declared.audit_path.AuditPath.{AuditPath as Path};
 ghost use Rattle.archive_proof.specs.declared.proof.Neighbour.{Neighbour as Beside};
@@ -125,8 +126,7 @@ fn side<'a>(
     ensures { IfOk result (λ found. (o : Option Beside) (rest : List ℕ) → IsSide o
         → text.now ≡ side_text word.now o ++ rest
         → (o ≡ None → (behind : List ℕ) → ¬ (rest ≡ word.now ++ behind))
-        → MatchOption found ⊥
-        (λ x. (side_text word.now x.0 ≡ side_text word.now o) × (x.1.now ≡ rest))) }
+        → MatchOption found ⊥ (λ x. AreSameSides x.0 o × (x.1.now ≡ rest))) }
 {
     let Some(behind) = text.strip_prefix(word) else {
         return Ok(Some((None, text)));
@@ -142,7 +142,7 @@ fn side<'a>(
 fn draft(alloc: Global, text: &[u8]) -> Result<Option<Proof>, AllocError>
     ensures { IfOk result (λ found. (p : Shown) (rest : List ℕ) → IsProof p
         → text.now ≡ proof_text p ++ rest
-        → MatchOption found ⊥ (λ q. proof_text q ≡ proof_text p)) }
+        → MatchOption found ⊥ (λ q. AreSame q p)) }
 {
     if let Some(rest) = text.strip_prefix(b"present ") {
         return Ok(match path(rest) {
@@ -165,9 +165,10 @@ fn draft(alloc: Global, text: &[u8]) -> Result<Option<Proof>, AllocError>
 /// Reads the proof that a text begins with, as docs/PROOF_FORMAT.md has it, and gives what follows
 /// it. None if it begins with none. It fails only when out of memory.
 pub fn read_proof(alloc: Global, text: &[u8]) -> Result<Option<(Proof, &[u8])>, AllocError>
-    ensures { IfOk result (λ found. MatchOption found
+    ensures begins { IfOk result (λ found. MatchOption found
         ((p : Shown) (rest : List ℕ) → IsProof p → ¬ (text.now ≡ proof_text p ++ rest))
         (λ x. text.now ≡ proof_text x.0 ++ x.1.now)) }
+    ensures only { IfOk result (λ found. IfSome found (λ x. IsOnlyProof text.now x.0 x.1.now)) }
 {
     let Some(proof) = draft(alloc, text)? else {
         return Ok(None);

@@ -9,6 +9,9 @@ use archive_tree::{AuditPath, Hash};
 use itoa::Buffer;
 use std::alloc::AllocError;
 
+/// The most octets of the text of a proof whose neighbours are entries of an archive.
+pub const PROOF_MAX: usize = 1_057_060;
+
 pub(crate) fn put(text: &mut Vec<u8>, octets: &[u8]) -> Result<(), AllocError>
     ensures { OnOk result (text.new.items ≡ text.old.items ++ octets.now) }
 {

@@ -1,7 +1,8 @@
-//! The line of a head.
+//! The line of a head, and that of octets behind the last proof.
 
 ghost use Rattle.std.specs.Prelude.{◌≡◌, ◌++◌, ◌∷◌, [], ◌+◌, ◌≤◌, decimal, length};
 ghost use Rattle.hex.specs.Hex.{encode_lower};
+ghost use Rattle.proof_engine.specs.Confirmed.{trailing_text};
 ghost use Rattle.proof_engine.specs.Rooted.{head_text};
 
 use archive_tree::{Hash, TreeHead};
@@ -38,4 +39,16 @@ pub(crate) fn head_line(head: &TreeHead) -> ArrayVec<u8, LINE_MAX>
     append(&mut line, &hexadecimal(&head.hash));
     append(&mut line, b"\n");
     line
+}
+
+/// The line on octets that follow the last proof: `trailing`, a space, how many octets come before
+/// them, and a line feed.
+pub(crate) fn trailing_line(at: u64) -> ArrayVec<u8, LINE_MAX>
+    ensures { result.items ≡ trailing_text at }
+{
+    let mut told = ArrayVec::new();
+    append(&mut told, b"trailing ");
+    append(&mut told, Buffer::new().format(at).as_bytes());
+    append(&mut told, b"\n");
+    told
 }

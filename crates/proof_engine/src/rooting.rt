@@ -1,15 +1,14 @@
 //! The tree of an archive, as it is read.
 
-ghost use Rattle.std.specs.Prelude.{◌≡◌, ◌∷◌, ◌++◌, [], ◌+◌, ◌^◌, ◌<◌, ℕ, List, false, IfErr, IfOk, IsTrue};
-ghost use Rattle.std.specs.Prelude.{MatchResult, length};
-ghost use Rattle.archive_streams.specs.Entries.{current, Ends, IsOpen, ReadsOne};
+ghost use Rattle.std.specs.Prelude.{◌≡◌, ◌∷◌, ◌++◌, [], ◌+◌, ◌^◌, ◌<◌, ℕ, List, IfOk, MatchResult, length};
+ghost use Rattle.archive_streams.specs.Entries.{current};
 ghost use Rattle.archive_sets.specs.Failures.{ReadFailures};
-ghost use Rattle.archive_sets.specs.Selecting.{IsHalt};
 ghost use Rattle.archive_tree.specs.Trees.{HasTaken};
 ghost use Rattle.proof_engine.specs.Rooting.{Halted, IsFresh, ReadWhole};
 
+use crate::reading::next_entry;
 use archive_sets::SelectFault;
-use archive_streams::{ArchiveEntries, EntriesFault, InputFault};
+use archive_streams::ArchiveEntries;
 use archive_tree::TreeStream;
 use octet_devices::Input;
 use std::alloc::{AllocError, Global};
@@ -34,28 +33,6 @@ impl Rooting {
         })
     }
 
-    // Reads the next entry and answers true, or finds the end and answers false. It fails if there
-    // is neither.
-    fn advance<R: Input>(&mut self, reader: &mut R) -> Result<bool, SelectFault>
-        requires { IsOpen self.old.entries }
-        ensures kept { self.new.tree ≡ self.old.tree }
-        ensures entry { IfOk result (λ some. IsTrue some → ReadsOne self.old.entries self.new.entries
-            (R.state reader.old) (R.state reader.new)) }
-        ensures end { IfOk result (λ some. some ≡ false → Ends self.old.entries self.new.entries
-            (R.state reader.old) (R.state reader.new)) }
-        ensures fault { IfErr result (λ fault. IsHalt fault self.old.entries self.new.entries
-            (R.state reader.old) (R.state reader.new)) }
-        ensures told { ReadFailures result (R.state reader.old).failures
-            (R.state reader.new).failures }
-    {
-        match self.entries.next(reader) {
-            Ok(some) => Ok(some),
-            Err(EntriesFault::Archive(fault)) => Err(SelectFault::Archive(fault)),
-            Err(EntriesFault::Input(InputFault::Device)) => Err(SelectFault::Read),
-            Err(EntriesFault::Input(InputFault::Endless)) => Err(SelectFault::Endless),
-        }
-    }
-
     // The entry that was read last goes into the tree.
     fn take(&mut self)
         ensures entries { self.new.entries ≡ self.old.entries }
@@ -75,7 +52,7 @@ impl Rooting {
         ensures told { ReadFailures result (R.state reader.old).failures
             (R.state reader.new).failures }
     {
-        'entries: while self.advance(reader)? {
+        'entries: while next_entry(&mut self.entries, reader)? {
             self.take();
         }
         Ok(())

@@ -1,10 +1,10 @@
-use Rattle.std.proofs.Common.{◌++◌, List, ℕ, sym, ap, ◌∙◌}
+use Rattle.std.proofs.Common.{◌++◌, List, ℕ, sym, subst, ◌∙◌}
 use Rattle.std.specs.Prelude.{Some, None, Option}
 use Rattle.std.proofs.lemmas.Bool.Decides.{Decides-eqb}
 use Rattle.std.proofs.lemmas.Slice.Eq.{strip_prefix_is}
-use Rattle.archive_proof.specs.Texts.{side_text}
 use Rattle.archive_proof.specs.declared.proof.Neighbour.{Neighbour}
-use Rattle.archive_proof.proofs.Readings.{no_word, same_text, with_word}
+use Rattle.archive_proof.specs.Reading.{AreSameSides}
+use Rattle.archive_proof.proofs.Readings.{no_word, with_word}
 use Rattle.archive_proof.proofs.reading.side.Goals as goal
 
 pub returns-in_default : goal.returns-in_default
@@ -29,8 +29,7 @@ returns c =
     let found = with_word c.args.word.now c.args.text.now c.in-Some.behind.now rest o valid begins is none in
     let read = c.in-Some-neighbour.ensures found.0 rest found.2 found.3 in
     let made : Neighbour = record { octets = c.in_ok-octets.octets; path = c.in-Some-neighbour.path } in (
-      ap (λ (l : List ℕ). c.args.word.now ++ l)
-          (same_text made found.0 (c.in_ok-octets.ensures ∙ read.0) read.1)
-          ∙ ap (λ (s : Option Neighbour). side_text c.args.word.now s) (sym found.1),
+      subst (λ (s : Option Neighbour). AreSameSides (Some made) s) (sym found.1)
+          (c.in_ok-octets.ensures ∙ read.0, read.1),
       read.2,
     )
