@@ -109,7 +109,7 @@ told : (keys : List CountKey) (t : Table) (xs : List Entry) (r : Row) → IsTabl
 told keys t xs r h at =
     let row : IsRowOf keys xs r.words.items (Some r.tally) =
     subst (IsRowOf keys xs r.words.items) at (h.rows r.words.items) in
-    line_needed keys xs r row.es row.selection row.tally (row.needed tt)
+    line_needed keys xs r row.es row.selection row.tally (row.needed refl)
 
 -- ---- the lines of rows
 
@@ -243,7 +243,7 @@ all_told keys t xs rows h each =
 -- an entry has a tally under its words
 has_tally : (o : Option Tally) (es : List Entry) (e : Entry) → IsTallyAt o es → Has es e → IsSome o
 has_tally None es e none has = absurd (subst (λ (l : List Entry). Has l e) none has)
-has_tally (Some u) es e tally has = tt
+has_tally (Some u) es e tally has = refl
 
 some_lines : (keys : List CountKey) (rows : List Row) (ls : List Line) (r : Row) → AreRowsFor keys rows ls → IsAmong rows r → ls ≢ []
 some_lines keys [] ls r are among none = among

@@ -1,10 +1,10 @@
 -- The steps of a count.
-use Rattle.std.proofs.Common.{◌≡◌, ℕ, ◌^◌, ◌<◌, List, [], ◌∷◌, ◌++◌, Option, length, refl, sym, ap, subst, arith}
+use Rattle.std.proofs.Common.{◌≡◌, ℕ, ◌^◌, ◌<◌, List, [], ◌∷◌, ◌++◌, Option, length, refl, sym, ap, subst, false, arith}
 use Rattle.std.proofs.lemmas.List.{length-append}
 use Rattle.octet_devices.specs.Device.{InputState}
 use Rattle.octet_language.specs.Language.{AnyOf}
 use Rattle.syslog_value.specs.Parts.{Parts}
-use Rattle.std.specs.Prelude.{ℤ}
+use Rattle.std.specs.Prelude.{ℤ, OnOk, Result, Ok, Err, is_err}
 use Rattle.syslog_reading.specs.WellFormed.{WellFormed}
 use Rattle.syslog_grammar.proofs.CanonicalParses.{canonical_well_formed}
 use Rattle.archive_text.specs.Entries.{Entry, Has, IsEntry}
@@ -38,6 +38,10 @@ looks keys s m d e f same one w = record {
   reads = one.reads d w.xs w.reads;
   table = subst (λ (t : Table). IsTableOf keys t w.xs) (sym same) w.table;
 }
+
+pub on_ok : {X E : Type 0} (r : Result X E) (P : Type 0) → is_err r ≡ false → OnOk r P → P
+on_ok (Ok x) P good h = h
+on_ok (Err e) P good h = absurd cc
 
 -- the octets of an entry of an archive are a record
 entry_record : (e : Entry) → IsEntry e → AnyOf WellFormed e.octets

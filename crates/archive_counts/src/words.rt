@@ -1,6 +1,6 @@
 //! The words of a record under the keys that it is counted by.
 
-ghost use Rattle.std.specs.Prelude.{◌≡◌, ◌∷◌, [], ℤ, codes, option_map};
+ghost use Rattle.std.specs.Prelude.{◌≤◌, ℕ, ℤ, List, option_map};
 ghost use Rattle.octet_language.specs.Language.{Only};
 ghost use Rattle.syslog_value.specs.Parts.{Parts};
 ghost use Rattle.syslog_fields.specs.Appending.{Puts};
