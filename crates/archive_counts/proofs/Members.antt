@@ -1,10 +1,10 @@
 -- The members of an object, from a text of words.
 use Rattle.std.proofs.Common.{◌≡◌, ℕ, zero, suc, ◌+◌, ◌<◌, ◌≤◌, List, [], ◌∷◌, ◌++◌, Option, None, Some, length, take, drop}
-use Rattle.std.proofs.Common.{get_or, refl, sym, ap, subst, ◌∙◌, append-nil, append_assoc, length-append, add-one, arith}
+use Rattle.std.proofs.Common.{get_or, refl, sym, ap, subst, ◌∙◌, append-nil, append_assoc, drop-cons, length-append, add-one, arith}
 use Rattle.std.specs.Prelude.{◌≢◌, Result, unwrap_or}
 use Rattle.std.specs.List.{AllByRecursion}
 use Rattle.std.proofs.lemmas.Bool.Decides.{Decides-eqb}
-use Rattle.std.proofs.lemmas.List.{drop-cons, drop_at, length-take, take_all, take_at, take_more}
+use Rattle.std.proofs.lemmas.List.{drop_at, length-take, take_all, take_at, take_more}
 use Rattle.std.proofs.lemmas.List.Elements.{All-from_recursion, All-get_or}
 use Rattle.memchr.specs.Find.{IsFirstByte, is_byte}
 use Rattle.octet_language.specs.Language.{Only, ◌⋅◌}
@@ -83,50 +83,55 @@ members_none keys spelled old = record {
   parts = sym (append-nil old);
 }
 
-pub members_more : (keys : List CountKey) (spelled : List ℕ) (i : ℕ) (k : CountKey) (rest word behind old out mid new : List ℕ)
-    → i < length keys → k ≡ get_or keys i k
+drop_next : (words : List (List ℕ)) (j : ℕ) → j < length words
+    → drop j words ≡ get_or words j [] ∷ drop (j + 1) words
+drop_next words j few = rw add-one (drop-cons words j [] few)
+
+joined : (o t x y : List ℕ) → o ++ t ++ x ++ y ≡ o ++ (t ++ (x ++ y))
+joined o t x y = simp append_assoc
+
+-- a word and the text behind it are the first of those that are left, and the others
+next_word : (keys : List CountKey) (spelled : List ℕ) (i : ℕ) (rest word behind old out : List ℕ)
+    → i < length keys
     → ((w : List ℕ) (ws : List (List ℕ)) → AllByRecursion IsFree w → rest ≡ 32 ∷ w ++ spaced ws
     → (word ≡ w) × (behind ≡ spaced ws))
-    → Members keys spelled i rest old out → Adds (Only (member_key k)) out mid → Adds (Only (value_of word)) mid new
-    → Members keys spelled (i + 1) behind old new
-members_more keys spelled i k rest word behind old out mid new below at split m (a, a_is, e) (b, b_is, f) = record {
-  text = m.text ++ (member_key k ++ value_of word);
-  is = λ words h.
-      let s = next words h in
-      let few : i < length words = omega (arith, below, h.count) in
-      let w : List ℕ = get_or words i [] in
-      let same_size : length (take i words) ≡ length (take i keys) =
-      omega (arith, length-take i words, length-take i keys, below, few) in
-      ap (λ (t : List ℕ). t ++ (member_key k ++ value_of word)) (m.is words h)
-      ∙ ap (λ (t : List ℕ). members_text (take i keys) (take i words) ++ (member_key k ++ value_of t)) s.0
-      ∙ sym (member_grows (take i keys) k (take i words) w same_size)
-      ∙ ap (λ (l : List CountKey). members_text l (take i words ++ w ∷ []))
-      (ap (λ (x : CountKey). take i keys ++ x ∷ []) at ∙ sym (take_more keys i k below))
-      ∙ ap (λ (l : List (List ℕ)). members_text (take (i + 1) keys) l) (sym (take_more words i [] few));
-  left = λ words h. (next words h).1;
-  parts =
-      f
-          ∙ ap (λ (t : List ℕ). t ++ b) (e ∙ ap (λ (t : List ℕ). t ++ a) m.parts)
-          ∙ ap (λ (t : List ℕ). old ++ m.text ++ a ++ t) b_is
-          ∙ ap (λ (t : List ℕ). old ++ m.text ++ t ++ value_of word) a_is
-          ∙ joined old m.text (member_key k) (value_of word);
-}
-  where
-    joined : (o t x y : List ℕ) → o ++ t ++ x ++ y ≡ o ++ (t ++ (x ++ y))
-    joined o t x y = simp append_assoc
+    → Members keys spelled i rest old out → (words : List (List ℕ)) → AreSpaced keys words spelled
+    → (word ≡ get_or words i []) × (behind ≡ spaced (drop (i + 1) words))
+next_word keys spelled i rest word behind old out below split m words h =
+    let few : i < length words = omega (arith, below, h.count) in
+    split (get_or words i []) (drop (i + 1) words)
+    (All-get_or (AllByRecursion IsFree) words i [] few (All-from_recursion (AllByRecursion IsFree) words h.free))
+    (m.left words h ∙ ap spaced (drop_next words i few))
 
-    next : (words : List (List ℕ)) → AreSpaced keys words spelled
-        → (word ≡ get_or words i []) × (behind ≡ spaced (drop (i + 1) words))
-    next words h =
-        let few : i < length words = omega (arith, below, h.count) in
-        let first : drop i words ≡ get_or words i [] ∷ drop (i + 1) words = drop_next words i few in
-        split (get_or words i []) (drop (i + 1) words)
-        (All-get_or (AllByRecursion IsFree) words i [] few (All-from_recursion (AllByRecursion IsFree) words h.free))
-        (m.left words h ∙ ap spaced first)
-
-    drop_next : (words : List (List ℕ)) (j : ℕ) → j < length words
-        → drop j words ≡ get_or words j [] ∷ drop (j + 1) words
-    drop_next words j few = rw add-one (drop-cons words j [])
+pub members_more : (keys : List CountKey) (spelled : List ℕ) (i : ℕ) (d : CountKey)
+    (rest word behind old out mid new : List ℕ) → i < length keys
+    → ((w : List ℕ) (ws : List (List ℕ)) → AllByRecursion IsFree w → rest ≡ 32 ∷ w ++ spaced ws
+    → (word ≡ w) × (behind ≡ spaced ws))
+    → Members keys spelled i rest old out → Adds (Only (member_key (get_or keys i d))) out mid
+    → Adds (Only (value_of word)) mid new → Members keys spelled (i + 1) behind old new
+members_more keys spelled i d rest word behind old out mid new below split m (a, a_is, e) (b, b_is, f) =
+    let k : CountKey = get_or keys i d in
+    record {
+      text = m.text ++ (member_key k ++ value_of word);
+      is = λ words h.
+          let s = next_word keys spelled i rest word behind old out below split m words h in
+          let few : i < length words = omega (arith, below, h.count) in
+          let w : List ℕ = get_or words i [] in
+          let same_size : length (take i words) ≡ length (take i keys) =
+          omega (arith, length-take i words, length-take i keys, below, few) in
+          ap (λ (t : List ℕ). t ++ (member_key k ++ value_of word)) (m.is words h)
+          ∙ ap (λ (t : List ℕ). members_text (take i keys) (take i words) ++ (member_key k ++ value_of t)) s.0
+          ∙ sym (member_grows (take i keys) k (take i words) w same_size)
+          ∙ ap (λ (l : List CountKey). members_text l (take i words ++ w ∷ [])) (sym (take_more keys i d below))
+          ∙ ap (λ (l : List (List ℕ)). members_text (take (i + 1) keys) l) (sym (take_more words i [] few));
+      left = λ words h. (next_word keys spelled i rest word behind old out below split m words h).1;
+      parts =
+          f
+              ∙ ap (λ (t : List ℕ). t ++ b) (e ∙ ap (λ (t : List ℕ). t ++ a) m.parts)
+              ∙ ap (λ (t : List ℕ). old ++ m.text ++ a ++ t) b_is
+              ∙ ap (λ (t : List ℕ). old ++ m.text ++ t ++ value_of word) a_is
+              ∙ joined old m.text (member_key k) (value_of word);
+    }
 
 pub members_all : (keys : List CountKey) (spelled : List ℕ) (i : ℕ) (rest old out : List ℕ)
     → length keys ≤ i → Members keys spelled i rest old out → Adds (MembersText keys spelled) old out

@@ -93,14 +93,25 @@ pub grows_from_some : (o : Option Tally) (s u : Tally) (e : Entry) → o ≡ Som
 grows_from_some o s u e is grows es up short h =
     grows es up short (subst (λ (x : Option Tally). IsTallyAt x es) is h)
 
-pub adds_to : (s t : Table) (text : List ℕ) (e : Entry) (u : Tally)
+adds_at : (s t : Table) (text : List ℕ) (e : Entry) (u : Tally)
     → UpdatesBy (λ x y. slice_cmp nat_cmp x.items y.items) (λ k. slice_cmp nat_cmp text k.items) s.rows t.rows (Some u)
     → TallyGrows (tally_at s text) u e → AddsTo s t text e
-adds_to s t text e u h grows = record {
+adds_at s t text e u h grows = record {
   some = some_here (tally_at t text) u h.1;
   here = λ es up short at. tally_here (tally_at t text) u (es ++ e ∷ []) h.1 (grows es up short at);
   others = λ other apart. others_stay s.rows t.rows text (Some u) h other apart;
 }
+
+-- the map may have been lent meanwhile
+pub adds_to : (s t m : Table) (key text : List ℕ) (e : Entry) (u : Tally) → m.rows ≡ s.rows → key ≡ text
+    → UpdatesBy (λ x y. slice_cmp nat_cmp x.items y.items) (λ k. slice_cmp nat_cmp key k.items) m.rows t.rows (Some u)
+    → TallyGrows (tally_at s text) u e → AddsTo s t text e
+adds_to s t m key text e u same is h grows =
+    adds_at s t text e u
+    (subst (λ (l : List ℕ).
+    UpdatesBy (λ x y. slice_cmp nat_cmp x.items y.items) (λ k. slice_cmp nat_cmp l k.items) s.rows t.rows (Some u)) is
+    (subst (λ r. UpdatesBy (λ x y. slice_cmp nat_cmp x.items y.items) (λ k. slice_cmp nat_cmp key k.items) r t.rows
+    (Some u)) same h)) grows
 
 -- ---- the table of entries
 
@@ -135,10 +146,10 @@ table_empty keys t none some =
     (λ text h. absurd (not_some (tally_at t text) (none_there t text none) h)) (λ h. absurd (some h))
 
 -- without keys
-pub table_alone : (keys : List CountKey) (s t : Table) (u : Tally) → s.rows.entries ≡ [] → keys ≡ [] → IsTallyOf u []
+table_alone_at : (keys : List CountKey) (s t : Table) (u : Tally) → s.rows.entries ≡ [] → keys ≡ [] → IsTallyOf u []
     → UpdatesBy (λ x y. slice_cmp nat_cmp x.items y.items) (λ k. slice_cmp nat_cmp [] k.items) s.rows t.rows (Some u)
     → IsTableOf keys t []
-table_alone keys s t u none no_keys new h =
+table_alone_at keys s t u none no_keys new h =
     table_none keys t (λ text. at text (decide text [])) (λ text some. (no_keys, needed text some (decide text [])))
     (λ k. some_here (tally_at t []) u h.1)
   where
@@ -153,6 +164,15 @@ table_alone keys s t u none no_keys new h =
     needed : (text : List ℕ) → IsSome (tally_at t text) → (text ≡ []) ⊎ (text ≢ []) → text ≡ []
     needed text some (inl same) = same
     needed text some (inr apart) = absurd (not_some (tally_at t text) (there text apart) some)
+
+pub table_alone : (keys : List CountKey) (s t : Table) (u : Tally) (key : List ℕ) → s.rows.entries ≡ [] → keys ≡ []
+    → IsTallyOf u [] → key ≡ []
+    → UpdatesBy (λ x y. slice_cmp nat_cmp x.items y.items) (λ k. slice_cmp nat_cmp key k.items) s.rows t.rows (Some u)
+    → IsTableOf keys t []
+table_alone keys s t u key none no_keys new is h =
+    table_alone_at keys s t u none no_keys new
+    (subst (λ (l : List ℕ).
+    UpdatesBy (λ x y. slice_cmp nat_cmp x.items y.items) (λ k. slice_cmp nat_cmp l k.items) s.rows t.rows (Some u)) is h)
 
 no_longer : (es xs : List Entry) (x : Entry) → length (text_of es) ≤ length (text_of xs)
     → length (text_of (es ++ x ∷ [])) ≤ length (text_of (xs ++ x ∷ []))

@@ -1,11 +1,11 @@
 -- The words of a record under keys: there is one text of them, and no word has a space.
-use Rattle.std.proofs.Common.{◌≡◌, ℕ, zero, suc, ◌+◌, ◌%◌, ◌/◌, ◌<◌, List, [], ◌∷◌, ◌++◌, Option, None, Some, length, take, drop, get_or}
+use Rattle.std.proofs.Common.{◌≡◌, ℕ, zero, suc, ◌+◌, ◌%◌, ◌/◌, ◌<◌, ◌≤◌, List, [], ◌∷◌, ◌++◌, Option, None, Some, length, take, drop, get_or}
 use Rattle.std.proofs.Common.{true, false, refl, sym, ap, subst, ◌∙◌, append-nil, append_assoc, arith}
 use Rattle.std.specs.Prelude.{◌≢◌, ◌↔◌, ◌==◌, ◌&&◌, not, Bool, ℤ, codes, IfSome}
 use Rattle.std.proofs.lemmas.Bool.Decides.{nat_tests}
 use Rattle.std.proofs.lemmas.Grind.{common_steps}
 use Rattle.std.specs.List.{AllByRecursion, flat_map}
-use Rattle.std.proofs.lemmas.List.{append_cancel_left, take-append-drop, take_more}
+use Rattle.std.proofs.lemmas.List.{append_cancel_left, take-append-drop, take_all, take_more}
 use Rattle.std.proofs.lemmas.List.Concat.{flat_map-append}
 use Rattle.octet_language.specs.Language.{Only}
 use Rattle.octet_language.proofs.Lists.{AllByRecursion-append, AllByRecursion-left, AllByRecursion-weaker, same_until, tails}
@@ -264,20 +264,23 @@ has_words keys ws e x h = (
 pub words_begin : (r : Parts ℤ) (old : List ℕ) → Adds (WordsText [] r) old old
 words_begin r old = ([], ([], refl, refl), sym (append-nil old))
 
-pub words_step : (keys : List CountKey) (i : ℕ) (k : CountKey) (r : Parts ℤ) (old out mid new : List ℕ) → i < length keys
-    → k ≡ get_or keys i k → Adds (WordsText (take i keys) r) old out → Adds (Only (32 ∷ [])) out mid
-    → Adds (IsWordOf k r) mid new → Adds (WordsText (take (i + 1) keys) r) old new
-words_step keys i k r old out mid new within is (text, words, e) (space, space_is, f) (word, one, g) = (
+pub words_step : (keys : List CountKey) (i : ℕ) (d : CountKey) (r : Parts ℤ) (old out mid new : List ℕ) → i < length keys
+    → Adds (WordsText (take i keys) r) old out → Adds (Only (32 ∷ [])) out mid
+    → Adds (IsWordOf (get_or keys i d) r) mid new → Adds (WordsText (take (i + 1) keys) r) old new
+words_step keys i d r old out mid new within (text, words, e) (space, space_is, f) (word, one, g) = (
   text ++ 32 ∷ word,
-  subst (λ (l : List CountKey). WordsText l r (text ++ 32 ∷ word))
-      (ap (λ (x : CountKey). take i keys ++ x ∷ []) is ∙ sym (take_more keys i k within))
-      (text_more (take i keys) k r text word words one),
+  subst (λ (l : List CountKey). WordsText l r (text ++ 32 ∷ word)) (sym (take_more keys i d within))
+      (text_more (take i keys) (get_or keys i d) r text word words one),
   g
       ∙ ap (λ (t : List ℕ). t ++ word) (f ∙ ap (λ (t : List ℕ). t ++ space) e)
       ∙ ap (λ (t : List ℕ). old ++ text ++ t ++ word) space_is
       ∙ append_assoc (old ++ text) (32 ∷ []) word
       ∙ append_assoc old text (32 ∷ word),
 )
+
+pub words_all : (keys : List CountKey) (i : ℕ) (r : Parts ℤ) (old out : List ℕ) → length keys ≤ i
+    → Adds (WordsText (take i keys) r) old out → Adds (WordsText keys r) old out
+words_all keys i r old out all h = subst (λ (l : List CountKey). Adds (WordsText l r) old out) (take_all i keys all) h
 
 -- ---- what a view shows
 

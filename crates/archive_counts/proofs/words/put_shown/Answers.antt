@@ -3,7 +3,8 @@ use Rattle.octet_language.specs.Language.{Only}
 use Rattle.syslog_fields.specs.Appending.{Anything}
 use Rattle.syslog_fields.proofs.Appends.{adds_some, puts_failed}
 use Rattle.archive_counts.specs.Words.{WordsText}
-use Rattle.archive_counts.proofs.WordTexts.{words_begin, words_step}
+use Rattle.archive_counts.specs.declared.key.CountKey.TheVariants.{Host}
+use Rattle.archive_counts.proofs.WordTexts.{words_all, words_begin, words_step}
 use Rattle.archive_counts.proofs.words.put_shown.Goals as goal
 
 pub keys-init : goal.keys-init
@@ -25,9 +26,11 @@ returns-in_err-put_word c = λ b r seen known.
 
 pub keys-preserved : goal.keys-preserved
 keys-preserved c = λ b r seen known.
-    let h = c.in_ok-put_word.ensures b r seen known in
-    words_step c.args.keys.now c.keys.key-index _ r c.args.out.now.items c.keys.out.items c.put.new.out.items
-    c.put_word.new.out.items c.keys-test.true ? (c.keys.invariant b r seen known) c.in_ok-put.ensures h
+    words_step c.args.keys.now c.keys.key-index Host r c.args.out.now.items c.keys.out.items c.put.new.out.items
+    c.put_word.new.out.items c.keys-test.true (c.keys.invariant b r seen known) c.in_ok-put.ensures
+    (c.in_ok-put_word.ensures b r seen known)
 
 pub returns : goal.returns
-returns c = ?
+returns c = λ b r seen known.
+    words_all c.args.keys.now c.keys.key-index r c.args.out.now.items c.keys.out.items c.keys-test.false
+    (c.keys.invariant b r seen known)
