@@ -59,6 +59,7 @@ line_from : (keys : List CountKey) (xs : List Entry) (r : Row) (es : List Entry)
 line_from keys xs r es ws s t is same some = record {
   line = record { words = ws; entries = es; first = r.tally.first; last = r.tally.last };
   is = record {
+    size = is.count;
     selection = reselect (HasText keys r.words.items) (HasWords keys ws) xs es same s;
     first = t.first;
     last = t.last;

@@ -127,10 +127,10 @@ members_more keys spelled i d rest word behind old out mid new below split m (a,
       left = λ words h. (next_word keys spelled i rest word behind old out below split m words h).1;
       parts =
           f
-              ∙ ap (λ (t : List ℕ). t ++ b) (e ∙ ap (λ (t : List ℕ). t ++ a) m.parts)
-              ∙ ap (λ (t : List ℕ). old ++ m.text ++ a ++ t) b_is
-              ∙ ap (λ (t : List ℕ). old ++ m.text ++ t ++ value_of word) a_is
-              ∙ joined old m.text (member_key k) (value_of word);
+          ∙ ap (λ (t : List ℕ). t ++ b) (e ∙ ap (λ (t : List ℕ). t ++ a) m.parts)
+          ∙ ap (λ (t : List ℕ). old ++ m.text ++ a ++ t) b_is
+          ∙ ap (λ (t : List ℕ). old ++ m.text ++ t ++ value_of word) a_is
+          ∙ joined old m.text (member_key k) (value_of word);
     }
 
 pub members_all : (keys : List CountKey) (spelled : List ℕ) (i : ℕ) (rest old out : List ℕ)

@@ -120,8 +120,7 @@ pub all_bars : (columns most free : ℕ) (rows : List Row) (i : ℕ) (old out : 
 all_bars columns most free rows i old out all is_most is_free (text, each, e) =
     let xs : List Shown = map shown_row rows in
     let whole : Each (λ r. BarText most free (shown_row r)) rows text =
-    subst (λ (l : List Row). Each (λ r. BarText most free (shown_row r)) l text) (take_all i rows all) each in
-    (
+    subst (λ (l : List Row). Each (λ r. BarText most free (shown_row r)) l text) (take_all i rows all) each in (
       text,
       subst (λ (m : ℕ). Each (BarText m (room columns xs)) xs text) is_most
           (subst (λ (f : ℕ). Each (BarText most f) xs text) is_free

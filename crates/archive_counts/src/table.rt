@@ -43,7 +43,8 @@ impl Table {
         }
         let mut tally = Tally::new();
         tally.add(entry);
-        self.rows.insert(Vec::from_slice(self.alloc, words)?, tally)?;
+        self.rows
+            .insert(Vec::from_slice(self.alloc, words)?, tally)?;
         Ok(())
     }
 

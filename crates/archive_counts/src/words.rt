@@ -17,7 +17,9 @@ use syslog_value::{Instant, Priority};
 
 // How many octets of a canonical timestamp name a day, an hour and a minute.
 const DAY_LEN: usize = 10;
+
 const HOUR_LEN: usize = 13;
+
 const MINUTE_LEN: usize = 16;
 
 // Appends a word, or NILVALUE.
@@ -73,11 +75,7 @@ fn put_word(key: CountKey, shown: &RecordView<'_>, out: &mut Vec<u8>) -> Result<
 }
 
 // Appends the words of the record that a view shows, each behind a space.
-fn put_shown(
-    keys: &[CountKey],
-    shown: &RecordView<'_>,
-    out: &mut Vec<u8>,
-) -> Result<(), AllocError>
+fn put_shown(keys: &[CountKey], shown: &RecordView<'_>, out: &mut Vec<u8>) -> Result<(), AllocError>
     ensures { (b : List ℕ) (r : Parts ℤ) → IsViewOf b (view_parts shown.now) → WellFormed r b
         → Puts (WordsText keys.now r) out.old.items out.new.items result }
 {

@@ -7,10 +7,10 @@ rows-preserved c = record {
   most =
       c.max-largest.ensures
       ∙ largest_step c.args.rows.now c.rows.row-index c.row-item.result c.rows.largest c.rows-test.true c.row-item.is
-          c.rows.invariant.most;
+      c.rows.invariant.most;
   furthest =
       c.max-longest.ensures
       ∙ ap (λ (v : List ℕ). max c.rows.longest (length v)) c.as_slice.ensures.value
       ∙ longest_step c.args.rows.now c.rows.row-index c.row-item.result c.rows.longest c.rows-test.true c.row-item.is
-          c.rows.invariant.furthest;
+      c.rows.invariant.furthest;
 }
