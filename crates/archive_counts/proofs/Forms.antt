@@ -1,5 +1,5 @@
 -- The text of lines in each form.
-use Rattle.std.proofs.Common.{◌≡◌, ℕ, List, [], ◌++◌, map, ap, subst, sym, ◌∙◌}
+use Rattle.std.proofs.Common.{◌≡◌, ℕ, List, [], ◌++◌, ap, subst, sym, ◌∙◌}
 use Rattle.syslog_fields.specs.Appending.{Adds}
 use Rattle.archive_text.specs.Entries.{Entry}
 use Rattle.archive_counts.specs.Bars.{BarsText, Shown}

@@ -10,3 +10,4 @@ pub mod Objects
 pub mod Scales
 pub mod Members
 pub mod Forms
+pub mod CountLaws

@@ -2,7 +2,7 @@
 use Rattle.std.proofs.Common.{◌≡◌, ℕ, ◌+◌, ◌*◌, ◌/◌, ◌%◌, ◌<◌, ◌≤◌, List, [], ◌∷◌, ◌++◌, length, map, max, min, get_or, take, refl, sym, ap}
 use Rattle.std.proofs.Common.{subst, ◌∙◌, inl, inr, arith}
 use Rattle.std.specs.Prelude.{◌⊎◌}
-use Rattle.std.specs.List.{All, AllByRecursion}
+use Rattle.std.specs.List.{AllByRecursion}
 use Rattle.std.proofs.Math.Nat.{mul-le-mul_left}
 use Rattle.std.proofs.lemmas.Bool.{cases_lt}
 use Rattle.std.proofs.lemmas.Grind.{div_ceil_times}
@@ -13,9 +13,8 @@ use Rattle.syslog_fields.specs.Appending.{Adds}
 use Rattle.archive_text.proofs.Members.{all_weaker}
 use Rattle.archive_counts.specs.Bars.{BarText, BarsText, IsBar, Shown, largest, longest, room, shown_line}
 use Rattle.archive_counts.specs.Bars.{shown_row}
-use Rattle.archive_counts.specs.Lines.{Line, count_of}
+use Rattle.archive_counts.specs.Lines.{Line}
 use Rattle.archive_counts.specs.Texts.{AreRowsFor, IsRowFor}
-use Rattle.archive_counts.specs.Words.{spaced}
 use Rattle.archive_counts.specs.declared.key.CountKey.{CountKey}
 use Rattle.archive_counts.specs.declared.rows.Row.{Row}
 

@@ -8,7 +8,7 @@ use Rattle.std.specs.Prelude.{ℤ, OnOk, Result, Ok, Err, is_err}
 use Rattle.syslog_fields.specs.Appending.{Adds}
 use Rattle.syslog_reading.specs.WellFormed.{WellFormed}
 use Rattle.syslog_grammar.proofs.CanonicalParses.{canonical_well_formed}
-use Rattle.archive_text.specs.Entries.{Entry, Has, IsEntry}
+use Rattle.archive_text.specs.Entries.{Entry, IsEntry}
 use Rattle.archive_text.specs.Text.{text_of}
 use Rattle.archive_text.proofs.Members.{has_right, of_member}
 use Rattle.archive_streams.specs.Entries.{current, IsBegun, Reads, ReadsOne}
@@ -17,8 +17,8 @@ use Rattle.archive_streams.proofs.EntrySteps.{begun}
 use Rattle.archive_sets.specs.Selecting.{IsHalt}
 use Rattle.archive_sets.specs.declared.fault.SelectFault.{SelectFault}
 use Rattle.archive_sets.specs.declared.fault.SelectFault.TheVariants.{Archive, Read, Endless, Write, Memory}
-use Rattle.archive_counts.specs.Counted.{IsUnwritten, Stopped}
-use Rattle.archive_counts.specs.Counting.{Halted, IsBeforeWriting, IsFresh, Looking, Tabling}
+use Rattle.archive_counts.specs.Counted.{Stopped}
+use Rattle.archive_counts.specs.Counting.{Halted, IsFresh, Looking, Tabling}
 use Rattle.archive_counts.specs.Tables.{AddsTo, IsTableOf}
 use Rattle.archive_counts.specs.Words.{HasText, WordsText}
 use Rattle.archive_counts.specs.declared.counting.Counting.{Counting}

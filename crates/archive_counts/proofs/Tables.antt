@@ -6,7 +6,7 @@ use Rattle.std.proofs.lemmas.Bool.Decides.{nat_tests}
 use Rattle.std.specs.BTreeMap.{BTreeMap, UpdatesBy, get_by, is_at}
 use Rattle.std.specs.Map.{KeepsOthers, lookup}
 use Rattle.std.specs.Cmp.Lexicographic.{slice_cmp}
-use Rattle.std.specs.Ordering.{eq_by_cmp, is_eq, nat_cmp}
+use Rattle.std.specs.Ordering.{is_eq, nat_cmp}
 use Rattle.std.specs.declared.cmp.Ordering.{Ordering}
 use Rattle.std.specs.declared.cmp.Ordering.TheVariants.{Less, Equal, Greater}
 use Rattle.std.proofs.lemmas.Cmp.{eq_by_cmp_equiv, nat_list_cmp_total}
@@ -18,7 +18,7 @@ use Rattle.archive_text.proofs.Members.{has_either}
 use Rattle.archive_text.proofs.Orders.{octets_total}
 use Rattle.archive_text.proofs.Texts.{text_length}
 use Rattle.archive_sets.proofs.Selecting.{selection_nil, selection_passes, selection_takes}
-use Rattle.archive_counts.specs.Tables.{AddsTo, IsNeeded, IsRowOf, IsTableOf, IsTallyAt, IsWorded, tally_at}
+use Rattle.archive_counts.specs.Tables.{AddsTo, IsRowOf, IsTableOf, IsTallyAt, IsWorded, tally_at}
 use Rattle.archive_counts.specs.Tallies.{IsTallyOf}
 use Rattle.archive_counts.specs.Words.{HasText}
 use Rattle.archive_counts.specs.declared.key.CountKey.{CountKey}

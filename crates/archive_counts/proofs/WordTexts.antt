@@ -1,10 +1,10 @@
 -- The words of a record under keys: there is one text of them, and no word has a space.
 use Rattle.std.proofs.Common.{◌≡◌, ℕ, zero, suc, ◌+◌, ◌%◌, ◌/◌, ◌<◌, ◌≤◌, List, [], ◌∷◌, ◌++◌, Option, None, Some, length, take, drop, get_or}
 use Rattle.std.proofs.Common.{true, false, refl, sym, ap, subst, ◌∙◌, append-nil, append_assoc, arith}
-use Rattle.std.specs.Prelude.{◌≢◌, ◌↔◌, ◌==◌, ◌&&◌, not, Bool, ℤ, codes, IfSome}
+use Rattle.std.specs.Prelude.{◌↔◌, ◌==◌, ◌&&◌, not, Bool, ℤ, codes, IfSome}
 use Rattle.std.proofs.lemmas.Bool.Decides.{nat_tests}
 use Rattle.std.proofs.lemmas.Grind.{common_steps}
-use Rattle.std.specs.List.{AllByRecursion, flat_map}
+use Rattle.std.specs.List.{AllByRecursion}
 use Rattle.std.proofs.lemmas.List.{append_cancel_left, take-append-drop, take_all, take_more}
 use Rattle.std.proofs.lemmas.List.Concat.{flat_map-append}
 use Rattle.octet_language.specs.Language.{Only}
@@ -18,7 +18,7 @@ use Rattle.syslog_value.specs.declared.facility.Facility.TheVariants as facility
 use Rattle.syslog_value.specs.declared.severity.Severity.{Severity}
 use Rattle.syslog_value.specs.declared.severity.Severity.TheVariants as severity
 use Rattle.syslog_value.proofs.Tables.{facility_once, severity_once}
-use Rattle.syslog_fields.specs.Canonical.{TimeForm, civil_text, word_form}
+use Rattle.syslog_fields.specs.Canonical.{civil_text, word_form}
 use Rattle.syslog_fields.specs.Appending.{Adds}
 use Rattle.syslog_fields.specs.Time.{padded}
 use Rattle.syslog_fields.proofs.CanonicalTexts.{time_once}
@@ -27,7 +27,6 @@ use Rattle.syslog_reading.specs.WellFormed.{WellFormed}
 use Rattle.syslog_reading.proofs.Laws.{one_meaning, same_parts}
 use Rattle.syslog_reading.proofs.Valid.{well_formed_valid}
 use Rattle.archive_text.specs.Entries.{Entry}
-use Rattle.archive_sets.specs.Fields.{IsOfRecord}
 use Rattle.archive_counts.specs.Words.{AreSpaced, AreWordsOf, HasText, HasWords, IsFree, IsPeriodWord, IsWordOf}
 use Rattle.archive_counts.specs.Words.{WordsText, spaced}
 use Rattle.archive_counts.specs.declared.key.CountKey.{CountKey}
@@ -89,6 +88,13 @@ one_text keys a b e h k =
     let same = one_meaning h.of k.of e.octets h.well_formed k.well_formed in
     let also : WordsText keys k.of a = subst (λ (r : Parts ℤ). WordsText keys r a) same h.holds in
     also.2 ∙ ap spaced (words_once keys k.of also.0 k.holds.0 also.1 k.holds.1) ∙ sym k.holds.2
+
+-- and one list of them
+pub same_words : (keys : List CountKey) (ws vs : List (List ℕ)) (e : Entry) → HasWords keys ws e → HasWords keys vs e
+    → ws ≡ vs
+same_words keys ws vs e h k =
+    let same = one_meaning h.of k.of e.octets h.well_formed k.well_formed in
+    words_once keys k.of ws vs (subst (λ (r : Parts ℤ). AreWordsOf keys r ws) same h.holds) k.holds
 
 -- ---- no word has a space
 

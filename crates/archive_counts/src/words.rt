@@ -92,6 +92,9 @@ pub fn put_words(keys: &[CountKey], octets: &[u8], out: &mut Vec<u8>) -> Result<
     ensures { (r : Parts ℤ) → WellFormed r octets.now
         → Puts (WordsText keys.now r) out.old.items out.new.items result }
 {
+    if keys.is_empty() {
+        return Ok(());
+    }
     match view(octets) {
         Ok(shown) => put_shown(keys, &shown, out),
         Err(_) => Ok(()),

@@ -1,4 +1,4 @@
-use Rattle.std.proofs.Common.{ℕ, List, ap, subst, ◌∙◌}
+use Rattle.std.proofs.Common.{ℕ, List, subst, ◌∙◌}
 use Rattle.std.specs.Prelude.{Option, ℤ}
 use Rattle.octet_language.specs.Language.{Only}
 use Rattle.syslog_fields.specs.Appending.{Puts}

@@ -1,4 +1,3 @@
-use Rattle.std.proofs.Common.{refl}
 use Rattle.archive_text.specs.EntryViews.{entry_of}
 use Rattle.archive_counts.proofs.Tallies.{tally_more}
 use Rattle.archive_counts.proofs.tally.Tally.add.Goals as goal
