@@ -1,5 +1,6 @@
 -- Which device failed depends on the fault alone.
-use Rattle.std.proofs.Common.{Some, Err, List}
+use Rattle.std.proofs.Common.{ℕ, Some, Err, List}
+use Rattle.std.specs.Prelude.{Result}
 use Rattle.octet_devices.specs.Device.{InputState, OutputState}
 use Rattle.archive_join.specs.Failures.{TellsFailures as JoinTells}
 use Rattle.archive_join.specs.declared.fault.JoinFault.{JoinFault}

@@ -1,5 +1,5 @@
 -- What `digest` does.
-use Rattle.std.specs.Prelude.{◌≡◌, ℕ, Option, Some}
+use Rattle.std.specs.Prelude.{◌≡◌, ℕ, Option, None, Some}
 use Rattle.archive_digest.specs.Digested.{Digested, Stopped}
 use Rattle.archive_digest.specs.declared.period.Period.{Period}
 use Rattle.archive_sets.specs.Failures.{TellsFailures}

@@ -1,4 +1,4 @@
-use Rattle.std.proofs.Common.{inl, inr}
+use Rattle.std.proofs.Common.{inl, inr, ⊎_elim}
 use Rattle.set_engine.proofs.join.report_join_fault.Goals as goal
 
 pub returns-in-Read : goal.returns-in-Read
