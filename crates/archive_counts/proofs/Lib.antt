@@ -2,7 +2,12 @@ pub mod Tallies
 pub mod WordTexts
 pub mod Texts
 pub mod Tables
+pub mod RowLists
 pub mod Ranks
 pub mod Lines
 pub mod Steps
 pub mod Objects
+pub mod Scales
+pub mod Members
+pub mod Forms
+pub mod CountLaws

@@ -1,9 +1,8 @@
 -- From the rows of a table to lines.
-use Rattle.std.proofs.Common.{◌≡◌, ℕ, zero, suc, ◌<◌, List, [], ◌∷◌, ◌++◌, Option, None, Some, length, take, refl, sym, ap, subst}
-use Rattle.std.proofs.Common.{◌∙◌, inl, inr, arith}
+use Rattle.std.proofs.Common.{◌≡◌, ℕ, zero, suc, ◌<◌, List, [], ◌∷◌, Option, None, Some, length, take, refl, sym, ap, subst}
+use Rattle.std.proofs.Common.{inl, inr, arith}
 use Rattle.std.specs.Prelude.{◌⊎◌, ◌≢◌, ◌↔◌, Contains, IsSome}
 use Rattle.std.specs.List.{AllByRecursion}
-use Rattle.std.specs.List.Sorted.{IsStrictlySortedBy}
 use Rattle.std.specs.Ordering.{nat_cmp, ordering_then}
 use Rattle.std.specs.Cmp.Lexicographic.{slice_cmp}
 use Rattle.std.specs.declared.cmp.Ordering.{Ordering}
@@ -59,6 +58,7 @@ line_from : (keys : List CountKey) (xs : List Entry) (r : Row) (es : List Entry)
 line_from keys xs r es ws s t is same some = record {
   line = record { words = ws; entries = es; first = r.tally.first; last = r.tally.last };
   is = record {
+    size = is.count;
     selection = reselect (HasText keys r.words.items) (HasWords keys ws) xs es same s;
     first = t.first;
     last = t.last;
@@ -109,7 +109,7 @@ told : (keys : List CountKey) (t : Table) (xs : List Entry) (r : Row) → IsTabl
 told keys t xs r h at =
     let row : IsRowOf keys xs r.words.items (Some r.tally) =
     subst (IsRowOf keys xs r.words.items) at (h.rows r.words.items) in
-    line_needed keys xs r row.es row.selection row.tally (row.needed tt)
+    line_needed keys xs r row.es row.selection row.tally (row.needed refl)
 
 -- ---- the lines of rows
 
@@ -243,7 +243,7 @@ all_told keys t xs rows h each =
 -- an entry has a tally under its words
 has_tally : (o : Option Tally) (es : List Entry) (e : Entry) → IsTallyAt o es → Has es e → IsSome o
 has_tally None es e none has = absurd (subst (λ (l : List Entry). Has l e) none has)
-has_tally (Some u) es e tally has = tt
+has_tally (Some u) es e tally has = refl
 
 some_lines : (keys : List CountKey) (rows : List Row) (ls : List Line) (r : Row) → AreRowsFor keys rows ls → IsAmong rows r → ls ≢ []
 some_lines keys [] ls r are among none = among

@@ -1,22 +1,26 @@
 -- The text of an object, member by member.
 use Rattle.std.proofs.Common.{◌≡◌, ℕ, Bool, true, false, List, [], ◌∷◌, ◌++◌, Option, None, Some, length, refl, sym, ap, subst, ◌∙◌}
-use Rattle.std.proofs.Common.{append_assoc, arith}
-use Rattle.std.specs.Prelude.{ℤ, codes, decimal, if◌then◌else◌}
+use Rattle.std.proofs.Common.{append-nil, append_assoc, arith}
+use Rattle.std.specs.Prelude.{Result, ℤ, codes, decimal, if◌then◌else◌}
 use Rattle.std.specs.Str.{bytes_eq}
 use Rattle.json.specs.Json.{Json, null, number, string, Members, member}
 use Rattle.json.specs.Print.{escape_byte, quoted}
-use Rattle.octet_language.specs.Language.{Each}
+use Rattle.octet_language.specs.Language.{Each, Only}
+use Rattle.syslog_fields.specs.Appending.{Adds, Puts}
+use Rattle.syslog_fields.proofs.Appends.{only_then, puts_as}
 use Rattle.record_json.specs.Objects.{IsTimeJson}
 use Rattle.record_json.specs.Texts.{key_text}
 use Rattle.record_json.proofs.Printing.{member_more, member_text, members_none, members_text as printed, named, null_value}
 use Rattle.record_json.proofs.Printing.{number_value, object_text, string_value, value_text}
-use Rattle.archive_counts.specs.Json.{LineJson, RowJson, TimeValue, member_key, member_name, members_of, members_text}
+use Rattle.archive_counts.specs.Json.{FrontJson, LineJson, RowJson, TimeValue, member_key, member_name, members_of, members_text}
 use Rattle.archive_counts.specs.Json.{object_of, value_of, word_json}
 use Rattle.archive_counts.specs.Lines.{Line, count_of, octets_of}
 use Rattle.archive_counts.specs.Texts.{AreRowsFor, IsRowFor}
 use Rattle.archive_counts.specs.declared.key.CountKey.{CountKey}
 use Rattle.archive_counts.specs.declared.key.CountKey.TheVariants as key
 use Rattle.archive_counts.specs.declared.rows.Row.{Row}
+use Rattle.archive_counts.specs.declared.tally.Tally.{Tally}
+use Rattle.archive_counts.proofs.Texts.{Pair, four_texts, pair_puts}
 
 value_by : (b : Bool) (w : List ℕ)
     → value_text (if b then null else string w) ≡ (if b then codes "null" else quoted w)
@@ -125,14 +129,40 @@ rows_json keys (r ∷ rows) (l ∷ ls) text h (a, b, e, first, more) =
 
 -- ---- one member more
 
-member_grows : (keys : List CountKey) (k : CountKey) (ws : List (List ℕ)) (w : List ℕ) → length ws ≡ length keys
+pub member_grows : (keys : List CountKey) (k : CountKey) (ws : List (List ℕ)) (w : List ℕ) → length ws ≡ length keys
     → members_text (keys ++ k ∷ []) (ws ++ w ∷ []) ≡ members_text keys ws ++ (member_key k ++ value_of w)
-member_grows [] k [] w h = sym (append_nil_of (member_key k ++ value_of w))
-  where
-    append_nil_of : (l : List ℕ) → l ≡ l ++ []
-    append_nil_of l = ?
+member_grows [] k [] w h = append-nil (member_key k ++ value_of w)
 member_grows [] k (v ∷ ws) w h = absurd (omega (arith, h))
 member_grows (x ∷ keys) k [] w h = absurd (omega (arith, h))
 member_grows (x ∷ keys) k (v ∷ ws) w h =
     ap (λ (t : List ℕ). member_key x ++ value_of v ++ t) (member_grows keys k ws w (omega (arith, h)))
     ∙ sym (append_assoc (member_key x ++ value_of v) (members_text keys ws) (member_key k ++ value_of w))
+
+-- ---- the members that each line has
+
+front_text : (a b c d e f x y : List ℕ)
+    → ((a ++ b ++ c ++ d) ++ e) ++ (x ++ (f ++ y)) ≡ (a ++ b) ++ (c ++ d) ++ (e ++ x) ++ (f ++ y)
+front_text a b c d e f x y = simp append_assoc
+
+pub front_json : {X E : Type 0} (t : Tally) (o m1 m2 m3 m4 m5 m6 m7 n : List ℕ) (r : Result X E)
+    → Adds (Only (123 ∷ 34 ∷ codes "count" ++ 34 ∷ 58 ∷ [])) o m1 → Adds (Only (decimal t.records)) m1 m2
+    → Adds (Only (key_text (codes "octets"))) m2 m3 → Adds (Only (decimal t.octets)) m3 m4
+    → Adds (Only (key_text (codes "first"))) m4 m5 → Adds (TimeValue t.first) m5 m6
+    → Adds (Only (key_text (codes "last"))) m6 m7 → Puts (TimeValue t.last) m7 n r → Puts (FrontJson t) o n r
+front_json t o m1 m2 m3 m4 m5 m6 m7 n r h1 h2 h3 h4 h5 h6 h7 h8 =
+    let a : List ℕ = 123 ∷ 34 ∷ codes "count" ++ 34 ∷ 58 ∷ [] in
+    let octets : List ℕ = key_text (codes "octets") in
+    let first : List ℕ = key_text (codes "first") in
+    let last : List ℕ = key_text (codes "last") in
+    let p : List ℕ = a ++ decimal t.records ++ octets ++ decimal t.octets in
+    puts_as (Pair (p ++ first) (TimeValue t.first) last (TimeValue t.last)) (FrontJson t) o n r
+    (λ s (x, y, i, j, e). (
+      x,
+      y,
+      i,
+      j,
+      e ∙ front_text a (decimal t.records) octets (decimal t.octets) first last x y,
+    ))
+    (pair_puts (p ++ first) last (TimeValue t.first) (TimeValue t.last) o m5 m6 m7 n r
+    (only_then p first o m4 m5
+    (four_texts a (decimal t.records) octets (decimal t.octets) o m1 m2 m3 m4 h1 h2 h3 h4) h5) h6 h7 h8)

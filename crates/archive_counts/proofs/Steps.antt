@@ -1,13 +1,14 @@
 -- The steps of a count.
-use Rattle.std.proofs.Common.{◌≡◌, ℕ, ◌^◌, ◌<◌, List, [], ◌∷◌, ◌++◌, Option, length, refl, sym, ap, subst, arith}
+use Rattle.std.proofs.Common.{◌≡◌, ℕ, ◌^◌, ◌<◌, List, [], ◌∷◌, ◌++◌, Option, length, refl, sym, ap, subst, false, ◌∙◌, arith}
 use Rattle.std.proofs.lemmas.List.{length-append}
 use Rattle.octet_devices.specs.Device.{InputState}
 use Rattle.octet_language.specs.Language.{AnyOf}
 use Rattle.syslog_value.specs.Parts.{Parts}
-use Rattle.std.specs.Prelude.{ℤ}
+use Rattle.std.specs.Prelude.{ℤ, OnOk, Result, Ok, Err, is_err}
+use Rattle.syslog_fields.specs.Appending.{Adds}
 use Rattle.syslog_reading.specs.WellFormed.{WellFormed}
 use Rattle.syslog_grammar.proofs.CanonicalParses.{canonical_well_formed}
-use Rattle.archive_text.specs.Entries.{Entry, Has, IsEntry}
+use Rattle.archive_text.specs.Entries.{Entry, IsEntry}
 use Rattle.archive_text.specs.Text.{text_of}
 use Rattle.archive_text.proofs.Members.{has_right, of_member}
 use Rattle.archive_streams.specs.Entries.{current, IsBegun, Reads, ReadsOne}
@@ -16,8 +17,8 @@ use Rattle.archive_streams.proofs.EntrySteps.{begun}
 use Rattle.archive_sets.specs.Selecting.{IsHalt}
 use Rattle.archive_sets.specs.declared.fault.SelectFault.{SelectFault}
 use Rattle.archive_sets.specs.declared.fault.SelectFault.TheVariants.{Archive, Read, Endless, Write, Memory}
-use Rattle.archive_counts.specs.Counted.{IsUnwritten, Stopped}
-use Rattle.archive_counts.specs.Counting.{Halted, IsBeforeWriting, IsFresh, Looking, Tabling}
+use Rattle.archive_counts.specs.Counted.{Stopped}
+use Rattle.archive_counts.specs.Counting.{Halted, IsFresh, Looking, Tabling}
 use Rattle.archive_counts.specs.Tables.{AddsTo, IsTableOf}
 use Rattle.archive_counts.specs.Words.{HasText, WordsText}
 use Rattle.archive_counts.specs.declared.counting.Counting.{Counting}
@@ -38,6 +39,10 @@ looks keys s m d e f same one w = record {
   reads = one.reads d w.xs w.reads;
   table = subst (λ (t : Table). IsTableOf keys t w.xs) (sym same) w.table;
 }
+
+pub on_ok : {X E : Type 0} (r : Result X E) (P : Type 0) → is_err r ≡ false → OnOk r P → P
+on_ok (Ok x) P good h = h
+on_ok (Err e) P good h = absurd cc
 
 -- the octets of an entry of an archive are a record
 entry_record : (e : Entry) → IsEntry e → AnyOf WellFormed e.octets
@@ -63,6 +68,21 @@ takes keys s t x text d e is same words adds w =
       reads = subst (λ (n : ArchiveEntries). Reads n d e (w.xs ++ x ∷ [])) (sym same) reads;
       table = table_takes keys s.table t.table w.xs x text read.archive.ascending short has adds w.table;
     }
+
+-- by what the calls that do so say
+words_are : (r : Parts ℤ) (keys : List CountKey) (old new text : List ℕ) → old ≡ [] → text ≡ new
+    → Adds (WordsText keys r) old new → WordsText keys r text
+words_are r keys old new text none is (added, words, e) =
+    subst (WordsText keys r) (sym (is ∙ e ∙ ap (λ (l : List ℕ). l ++ added) none)) words
+
+pub takes_words : {X E : Type 0} (keys : List CountKey) (s t : Counting) (x : Entry) (old new text : List ℕ)
+    (result : Result X E) → x ≡ current s.entries → old ≡ []
+    → ((r : Parts ℤ) → WellFormed r x.octets → Adds (WordsText keys r) old new) → text ≡ new
+    → OnOk result (AddsTo s.table t.table text x) → t.entries ≡ s.entries
+    → OnOk result ((d e : InputState) → Looking keys s d e → Tabling keys t d e)
+takes_words keys s t x old new text (Ok y) is none words text_is adds same = λ d e w.
+    takes keys s t x text d e is same (λ r known. words_are r keys old new text none text_is (words r known)) adds w
+takes_words keys s t x old new text (Err y) is none words text_is adds same = adds
 
 -- or a fault halts it
 pub halts : (fault : SelectFault) (keys : List CountKey) (s m : Counting) (d e f : InputState)

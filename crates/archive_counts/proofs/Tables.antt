@@ -1,11 +1,12 @@
 -- A table grows by an entry.
 use Rattle.std.proofs.Common.{◌≡◌, ℕ, ◌^◌, ◌<◌, ◌≤◌, List, [], ◌∷◌, ◌++◌, Option, None, Some, true, false, length, refl, sym, ap}
 use Rattle.std.proofs.Common.{subst, ◌∙◌, inl, inr, arith}
-use Rattle.std.specs.Prelude.{◌⊎◌, ◌≢◌, Bool, IsSome, Vec}
+use Rattle.std.specs.Prelude.{◌⊎◌, ◌≢◌, ◌==◌, Bool, IsSome, Vec}
+use Rattle.std.proofs.lemmas.Bool.Decides.{nat_tests}
 use Rattle.std.specs.BTreeMap.{BTreeMap, UpdatesBy, get_by, is_at}
-use Rattle.std.specs.Map.{KeepsOthers}
+use Rattle.std.specs.Map.{KeepsOthers, lookup}
 use Rattle.std.specs.Cmp.Lexicographic.{slice_cmp}
-use Rattle.std.specs.Ordering.{eq_by_cmp, is_eq, nat_cmp}
+use Rattle.std.specs.Ordering.{is_eq, nat_cmp}
 use Rattle.std.specs.declared.cmp.Ordering.{Ordering}
 use Rattle.std.specs.declared.cmp.Ordering.TheVariants.{Less, Equal, Greater}
 use Rattle.std.proofs.lemmas.Cmp.{eq_by_cmp_equiv, nat_list_cmp_total}
@@ -17,7 +18,7 @@ use Rattle.archive_text.proofs.Members.{has_either}
 use Rattle.archive_text.proofs.Orders.{octets_total}
 use Rattle.archive_text.proofs.Texts.{text_length}
 use Rattle.archive_sets.proofs.Selecting.{selection_nil, selection_passes, selection_takes}
-use Rattle.archive_counts.specs.Tables.{AddsTo, IsNeeded, IsRowOf, IsTableOf, IsTallyAt, IsWorded, tally_at}
+use Rattle.archive_counts.specs.Tables.{AddsTo, IsRowOf, IsTableOf, IsTallyAt, IsWorded, tally_at}
 use Rattle.archive_counts.specs.Tallies.{IsTallyOf}
 use Rattle.archive_counts.specs.Words.{HasText}
 use Rattle.archive_counts.specs.declared.key.CountKey.{CountKey}
@@ -67,8 +68,8 @@ others_stay {X = X} {Y = Y} m n text w h other apart =
 tally_here : (o : Option Tally) (u : Tally) (es : List Entry) → o ≡ Some u → IsTallyOf u es → IsTallyAt o es
 tally_here o u es is h = subst (λ (x : Option Tally). IsTallyAt x es) (sym is) h
 
-some_here : (o : Option Tally) (u : Tally) → o ≡ Some u → IsSome o
-some_here o u is = subst (λ (x : Option Tally). IsSome x) (sym is) tt
+pub some_here : (o : Option Tally) (u : Tally) → o ≡ Some u → IsSome o
+some_here o u is = subst (λ (x : Option Tally). IsSome x) (sym is) refl
 
 -- what becomes of a tally with an entry more
 abbrev pub TallyGrows : Option Tally → Tally → Entry → Type 0
@@ -92,20 +93,25 @@ pub grows_from_some : (o : Option Tally) (s u : Tally) (e : Entry) → o ≡ Som
 grows_from_some o s u e is grows es up short h =
     grows es up short (subst (λ (x : Option Tally). IsTallyAt x es) is h)
 
-pub adds_to : {Y : Type 0} (s t : Table) (m n : BTreeMap (Vec ℕ Y) Tally) (text : List ℕ) (e : Entry) (u : Tally)
-    → tally_at s ≡ (λ (l : List ℕ). get_by (λ (k : Vec ℕ Y). slice_cmp nat_cmp l k.items) m)
-    → tally_at t ≡ (λ (l : List ℕ). get_by (λ (k : Vec ℕ Y). slice_cmp nat_cmp l k.items) n)
-    → UpdatesBy (λ (x y : Vec ℕ Y). slice_cmp nat_cmp x.items y.items) (λ k. slice_cmp nat_cmp text k.items) m n (Some u)
+adds_at : (s t : Table) (text : List ℕ) (e : Entry) (u : Tally)
+    → UpdatesBy (λ x y. slice_cmp nat_cmp x.items y.items) (λ k. slice_cmp nat_cmp text k.items) s.rows t.rows (Some u)
     → TallyGrows (tally_at s text) u e → AddsTo s t text e
-adds_to s t m n text e u of_s of_t h grows =
-    let here : tally_at t text ≡ Some u = ap (λ (f : List ℕ → Option Tally). f text) of_t ∙ h.1 in
-    record {
-      some = some_here (tally_at t text) u here;
-      here = λ es up short at. tally_here (tally_at t text) u (es ++ e ∷ []) here (grows es up short at);
-      others = λ other apart.
-          ap (λ (f : List ℕ → Option Tally). f other) of_t ∙ others_stay m n text (Some u) h other apart
-          ∙ sym (ap (λ (f : List ℕ → Option Tally). f other) of_s);
-    }
+adds_at s t text e u h grows = record {
+  some = some_here (tally_at t text) u h.1;
+  here = λ es up short at. tally_here (tally_at t text) u (es ++ e ∷ []) h.1 (grows es up short at);
+  others = λ other apart. others_stay s.rows t.rows text (Some u) h other apart;
+}
+
+-- the map may have been lent meanwhile
+pub adds_to : (s t m : Table) (key text : List ℕ) (e : Entry) (u : Tally) → m.rows ≡ s.rows → key ≡ text
+    → UpdatesBy (λ x y. slice_cmp nat_cmp x.items y.items) (λ k. slice_cmp nat_cmp key k.items) m.rows t.rows (Some u)
+    → TallyGrows (tally_at s text) u e → AddsTo s t text e
+adds_to s t m key text e u same is h grows =
+    adds_at s t text e u
+    (subst (λ (l : List ℕ).
+    UpdatesBy (λ x y. slice_cmp nat_cmp x.items y.items) (λ k. slice_cmp nat_cmp l k.items) s.rows t.rows (Some u)) is
+    (subst (λ r. UpdatesBy (λ x y. slice_cmp nat_cmp x.items y.items) (λ k. slice_cmp nat_cmp key k.items) r t.rows
+    (Some u)) same h)) grows
 
 -- ---- the table of entries
 
@@ -124,6 +130,49 @@ table_none keys t at needed alone = record {
   all = λ e h. absurd h;
   alone = alone;
 }
+
+none_there : (t : Table) (text : List ℕ) → t.rows.entries ≡ [] → tally_at t text ≡ None
+none_there t text none = ap (lookup (is_at (λ k. slice_cmp nat_cmp text k.items))) none
+
+at_none : (o : Option Tally) → o ≡ None → IsTallyAt o []
+at_none o is = subst (λ (x : Option Tally). IsTallyAt x []) (sym is) refl
+
+not_some : (o : Option Tally) → o ≡ None → ¬ (IsSome o)
+not_some o is some = let clash : IsSome {T = Tally} None = subst (λ (x : Option Tally). IsSome x) is some in absurd cc
+
+pub table_empty : (keys : List CountKey) (t : Table) → t.rows.entries ≡ [] → keys ≢ [] → IsTableOf keys t []
+table_empty keys t none some =
+    table_none keys t (λ text. at_none (tally_at t text) (none_there t text none))
+    (λ text h. absurd (not_some (tally_at t text) (none_there t text none) h)) (λ h. absurd (some h))
+
+-- without keys
+table_alone_at : (keys : List CountKey) (s t : Table) (u : Tally) → s.rows.entries ≡ [] → keys ≡ [] → IsTallyOf u []
+    → UpdatesBy (λ x y. slice_cmp nat_cmp x.items y.items) (λ k. slice_cmp nat_cmp [] k.items) s.rows t.rows (Some u)
+    → IsTableOf keys t []
+table_alone_at keys s t u none no_keys new h =
+    table_none keys t (λ text. at text (decide text [])) (λ text some. (no_keys, needed text some (decide text [])))
+    (λ k. some_here (tally_at t []) u h.1)
+  where
+    there : (text : List ℕ) → text ≢ [] → tally_at t text ≡ None
+    there text apart = others_stay s.rows t.rows [] (Some u) h text apart ∙ none_there s text none
+
+    at : (text : List ℕ) → (text ≡ []) ⊎ (text ≢ []) → IsTallyAt (tally_at t text) []
+    at text (inl same) =
+        subst (λ (l : List ℕ). IsTallyAt (tally_at t l) []) (sym same) (tally_here (tally_at t []) u [] h.1 new)
+    at text (inr apart) = at_none (tally_at t text) (there text apart)
+
+    needed : (text : List ℕ) → IsSome (tally_at t text) → (text ≡ []) ⊎ (text ≢ []) → text ≡ []
+    needed text some (inl same) = same
+    needed text some (inr apart) = absurd (not_some (tally_at t text) (there text apart) some)
+
+pub table_alone : (keys : List CountKey) (s t : Table) (u : Tally) (key : List ℕ) → s.rows.entries ≡ [] → keys ≡ []
+    → IsTallyOf u [] → key ≡ []
+    → UpdatesBy (λ x y. slice_cmp nat_cmp x.items y.items) (λ k. slice_cmp nat_cmp key k.items) s.rows t.rows (Some u)
+    → IsTableOf keys t []
+table_alone keys s t u key none no_keys new is h =
+    table_alone_at keys s t u none no_keys new
+    (subst (λ (l : List ℕ).
+    UpdatesBy (λ x y. slice_cmp nat_cmp x.items y.items) (λ k. slice_cmp nat_cmp l k.items) s.rows t.rows (Some u)) is h)
 
 no_longer : (es xs : List Entry) (x : Entry) → length (text_of es) ≤ length (text_of xs)
     → length (text_of (es ++ x ∷ [])) ≤ length (text_of (xs ++ x ∷ []))
@@ -187,3 +236,7 @@ table_takes keys s t xs x text up short has adds h = record {
     worded e (inl early) = h.all e early
     worded e (inr (inl same)) = (text, subst (HasText keys text) same has)
     worded e (inr (inr none)) = absurd none
+
+pub no_keys : (keys : List CountKey) (b : Bool) → b ≡ (length keys == 0) → b ≡ true → keys ≡ []
+no_keys [] b is h = refl
+no_keys (k ∷ keys) b is h = let some : (length (k ∷ keys) == 0) ≡ true = sym is ∙ h in absurd (grind (arith, nat_tests, some))

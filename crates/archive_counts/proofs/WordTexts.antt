@@ -1,12 +1,13 @@
 -- The words of a record under keys: there is one text of them, and no word has a space.
-use Rattle.std.proofs.Common.{◌≡◌, ℕ, zero, suc, ◌+◌, ◌%◌, ◌/◌, List, [], ◌∷◌, ◌++◌, Option, None, Some, length, take, drop}
-use Rattle.std.proofs.Common.{true, false, refl, sym, ap, subst, ◌∙◌, append-nil, arith}
-use Rattle.std.specs.Prelude.{◌≢◌, ◌↔◌, ◌==◌, ◌&&◌, not, Bool, ℤ, codes, IfSome}
+use Rattle.std.proofs.Common.{◌≡◌, ℕ, zero, suc, ◌+◌, ◌%◌, ◌/◌, ◌<◌, ◌≤◌, List, [], ◌∷◌, ◌++◌, Option, None, Some, length, take, drop, get_or}
+use Rattle.std.proofs.Common.{true, false, refl, sym, ap, subst, ◌∙◌, append-nil, append_assoc, arith}
+use Rattle.std.specs.Prelude.{◌↔◌, ◌==◌, ◌&&◌, not, Bool, ℤ, codes, IfSome}
 use Rattle.std.proofs.lemmas.Bool.Decides.{nat_tests}
 use Rattle.std.proofs.lemmas.Grind.{common_steps}
-use Rattle.std.specs.List.{AllByRecursion, flat_map}
-use Rattle.std.proofs.lemmas.List.{append_cancel_left, take-append-drop}
+use Rattle.std.specs.List.{AllByRecursion}
+use Rattle.std.proofs.lemmas.List.{append_cancel_left, take-append-drop, take_all, take_more}
 use Rattle.std.proofs.lemmas.List.Concat.{flat_map-append}
+use Rattle.octet_language.specs.Language.{Only}
 use Rattle.octet_language.proofs.Lists.{AllByRecursion-append, AllByRecursion-left, AllByRecursion-weaker, same_until, tails}
 use Rattle.syslog_value.specs.Facilities.{facility_name}
 use Rattle.syslog_value.specs.Parts.{IsPrintable, IsRecord, IsWord, Parts}
@@ -17,14 +18,15 @@ use Rattle.syslog_value.specs.declared.facility.Facility.TheVariants as facility
 use Rattle.syslog_value.specs.declared.severity.Severity.{Severity}
 use Rattle.syslog_value.specs.declared.severity.Severity.TheVariants as severity
 use Rattle.syslog_value.proofs.Tables.{facility_once, severity_once}
-use Rattle.syslog_fields.specs.Canonical.{TimeForm, civil_text, word_form}
+use Rattle.syslog_fields.specs.Canonical.{civil_text, word_form}
+use Rattle.syslog_fields.specs.Appending.{Adds}
 use Rattle.syslog_fields.specs.Time.{padded}
 use Rattle.syslog_fields.proofs.CanonicalTexts.{time_once}
+use Rattle.syslog_reading.specs.ViewParts.{IsViewOf, ViewParts}
 use Rattle.syslog_reading.specs.WellFormed.{WellFormed}
-use Rattle.syslog_reading.proofs.Laws.{one_meaning}
+use Rattle.syslog_reading.proofs.Laws.{one_meaning, same_parts}
 use Rattle.syslog_reading.proofs.Valid.{well_formed_valid}
 use Rattle.archive_text.specs.Entries.{Entry}
-use Rattle.archive_sets.specs.Fields.{IsOfRecord}
 use Rattle.archive_counts.specs.Words.{AreSpaced, AreWordsOf, HasText, HasWords, IsFree, IsPeriodWord, IsWordOf}
 use Rattle.archive_counts.specs.Words.{WordsText, spaced}
 use Rattle.archive_counts.specs.declared.key.CountKey.{CountKey}
@@ -71,14 +73,14 @@ word_once key.Day r a b h k = period_once 10 r.time a b h k
 word_once key.Hour r a b h k = period_once 13 r.time a b h k
 word_once key.Minute r a b h k = period_once 16 r.time a b h k
 
-words_once : (keys : List CountKey) (r : Parts ℤ) (as bs : List (List ℕ)) → AreWordsOf keys r as → AreWordsOf keys r bs
-    → as ≡ bs
-words_once [] r as bs h k = h ∙ sym k
-words_once (x ∷ keys) r [] bs h k = absurd h
-words_once (x ∷ keys) r (a ∷ as) [] h k = absurd k
-words_once (x ∷ keys) r (a ∷ as) (b ∷ bs) h k =
-    ap (λ (l : List ℕ). l ∷ as) (word_once x r a b h.0 k.0)
-    ∙ ap (λ (l : List (List ℕ)). b ∷ l) (words_once keys r as bs h.1 k.1)
+words_once : (keys : List CountKey) (r : Parts ℤ) (ws vs : List (List ℕ)) → AreWordsOf keys r ws → AreWordsOf keys r vs
+    → ws ≡ vs
+words_once [] r ws vs h k = h ∙ sym k
+words_once (x ∷ keys) r [] vs h k = absurd h
+words_once (x ∷ keys) r (a ∷ ws) [] h k = absurd k
+words_once (x ∷ keys) r (a ∷ ws) (b ∷ vs) h k =
+    ap (λ (l : List ℕ). l ∷ ws) (word_once x r a b h.0 k.0)
+    ∙ ap (λ (l : List (List ℕ)). b ∷ l) (words_once keys r ws vs h.1 k.1)
 
 -- an entry has one text of words
 pub one_text : (keys : List CountKey) (a b : List ℕ) (e : Entry) → HasText keys a e → HasText keys b e → a ≡ b
@@ -86,6 +88,13 @@ one_text keys a b e h k =
     let same = one_meaning h.of k.of e.octets h.well_formed k.well_formed in
     let also : WordsText keys k.of a = subst (λ (r : Parts ℤ). WordsText keys r a) same h.holds in
     also.2 ∙ ap spaced (words_once keys k.of also.0 k.holds.0 also.1 k.holds.1) ∙ sym k.holds.2
+
+-- and one list of them
+pub same_words : (keys : List CountKey) (ws vs : List (List ℕ)) (e : Entry) → HasWords keys ws e → HasWords keys vs e
+    → ws ≡ vs
+same_words keys ws vs e h k =
+    let same = one_meaning h.of k.of e.octets h.well_formed k.well_formed in
+    words_once keys k.of ws vs (subst (λ (r : Parts ℤ). AreWordsOf keys r ws) same h.holds) k.holds
 
 -- ---- no word has a space
 
@@ -212,26 +221,26 @@ words_free (k ∷ keys) r (w ∷ ws) v h = (word_free k r w v h.0, words_free ke
 -- ---- so a text has one list of words
 
 -- behind a word comes a space, or nothing
-behind : (as bs : List (List ℕ)) (keys : List CountKey) (r q : Parts ℤ) (a b : List ℕ) → AreWordsOf keys r as
-    → AreWordsOf keys q bs → AllByRecursion IsFree a → AllByRecursion IsFree b → a ++ spaced as ≡ b ++ spaced bs → a ≡ b
+behind : (ws vs : List (List ℕ)) (keys : List CountKey) (r q : Parts ℤ) (a b : List ℕ) → AreWordsOf keys r ws
+    → AreWordsOf keys q vs → AllByRecursion IsFree a → AllByRecursion IsFree b → a ++ spaced ws ≡ b ++ spaced vs → a ≡ b
 behind [] [] keys r q a b h k p s e = sym (append-nil a) ∙ e ∙ append-nil b
-behind [] (y ∷ bs) [] r q a b h k p s e = absurd cc
-behind [] (y ∷ bs) (x ∷ keys) r q a b h k p s e = absurd h
-behind (x ∷ as) [] [] r q a b h k p s e = absurd cc
-behind (x ∷ as) [] (y ∷ keys) r q a b h k p s e = absurd k
-behind (x ∷ as) (y ∷ bs) keys r q a b h k p s e = same_until 32 a b (x ++ spaced as) (y ++ spaced bs) p s e
+behind [] (y ∷ vs) [] r q a b h k p s e = absurd cc
+behind [] (y ∷ vs) (x ∷ keys) r q a b h k p s e = absurd h
+behind (x ∷ ws) [] [] r q a b h k p s e = absurd cc
+behind (x ∷ ws) [] (y ∷ keys) r q a b h k p s e = absurd k
+behind (x ∷ ws) (y ∷ vs) keys r q a b h k p s e = same_until 32 a b (x ++ spaced ws) (y ++ spaced vs) p s e
 
-pub one_list : (keys : List CountKey) (r q : Parts ℤ) (as bs : List (List ℕ)) → IsRecord r → IsRecord q
-    → AreWordsOf keys r as → AreWordsOf keys q bs → spaced as ≡ spaced bs → as ≡ bs
-one_list [] r q as bs v u h k e = h ∙ sym k
-one_list (x ∷ keys) r q [] bs v u h k e = absurd h
-one_list (x ∷ keys) r q (a ∷ as) [] v u h k e = absurd k
-one_list (x ∷ keys) r q (a ∷ as) (b ∷ bs) v u h k e =
-    let rest : a ++ spaced as ≡ b ++ spaced bs = tails 32 32 (a ++ spaced as) (b ++ spaced bs) e in
-    let same : a ≡ b = behind as bs keys r q a b h.1 k.1 (word_free x r a v h.0) (word_free x q b u k.0) rest in
-    let more : spaced as ≡ spaced bs = append_cancel_left a (spaced as) (spaced bs)
-    (rest ∙ ap (λ (l : List ℕ). l ++ spaced bs) (sym same)) in
-    ap (λ (l : List ℕ). l ∷ as) same ∙ ap (λ (l : List (List ℕ)). b ∷ l) (one_list keys r q as bs v u h.1 k.1 more)
+pub one_list : (keys : List CountKey) (r q : Parts ℤ) (ws vs : List (List ℕ)) → IsRecord r → IsRecord q
+    → AreWordsOf keys r ws → AreWordsOf keys q vs → spaced ws ≡ spaced vs → ws ≡ vs
+one_list [] r q ws vs v u h k e = h ∙ sym k
+one_list (x ∷ keys) r q [] vs v u h k e = absurd h
+one_list (x ∷ keys) r q (a ∷ ws) [] v u h k e = absurd k
+one_list (x ∷ keys) r q (a ∷ ws) (b ∷ vs) v u h k e =
+    let rest : a ++ spaced ws ≡ b ++ spaced vs = tails 32 32 (a ++ spaced ws) (b ++ spaced vs) e in
+    let same : a ≡ b = behind ws vs keys r q a b h.1 k.1 (word_free x r a v h.0) (word_free x q b u k.0) rest in
+    let more : spaced ws ≡ spaced vs = append_cancel_left a (spaced ws) (spaced vs)
+    (rest ∙ ap (λ (l : List ℕ). l ++ spaced vs) (sym same)) in
+    ap (λ (l : List ℕ). l ∷ ws) same ∙ ap (λ (l : List (List ℕ)). b ∷ l) (one_list keys r q ws vs v u h.1 k.1 more)
 
 pub are_spaced : (keys : List CountKey) (r : Parts ℤ) (ws : List (List ℕ)) (text : List ℕ) → IsRecord r
     → AreWordsOf keys r ws → text ≡ spaced ws → AreSpaced keys ws text
@@ -255,3 +264,33 @@ has_words keys ws e x h = (
   },
   λ k. record { of = k.of; well_formed = k.well_formed; holds = (ws, k.holds, refl) },
 )
+
+-- ---- words are appended
+
+pub words_begin : (r : Parts ℤ) (old : List ℕ) → Adds (WordsText [] r) old old
+words_begin r old = ([], ([], refl, refl), sym (append-nil old))
+
+pub words_step : (keys : List CountKey) (i : ℕ) (d : CountKey) (r : Parts ℤ) (old out mid new : List ℕ) → i < length keys
+    → Adds (WordsText (take i keys) r) old out → Adds (Only (32 ∷ [])) out mid
+    → Adds (IsWordOf (get_or keys i d) r) mid new → Adds (WordsText (take (i + 1) keys) r) old new
+words_step keys i d r old out mid new within (text, words, e) (space, space_is, f) (word, one, g) = (
+  text ++ 32 ∷ word,
+  subst (λ (l : List CountKey). WordsText l r (text ++ 32 ∷ word)) (sym (take_more keys i d within))
+      (text_more (take i keys) (get_or keys i d) r text word words one),
+  g
+      ∙ ap (λ (t : List ℕ). t ++ word) (f ∙ ap (λ (t : List ℕ). t ++ space) e)
+      ∙ ap (λ (t : List ℕ). old ++ text ++ t ++ word) space_is
+      ∙ append_assoc (old ++ text) (32 ∷ []) word
+      ∙ append_assoc old text (32 ∷ word),
+)
+
+pub words_all : (keys : List CountKey) (i : ℕ) (r : Parts ℤ) (old out : List ℕ) → length keys ≤ i
+    → Adds (WordsText (take i keys) r) old out → Adds (WordsText keys r) old out
+words_all keys i r old out all h = subst (λ (l : List CountKey). Adds (WordsText l r) old out) (take_all i keys all) h
+
+-- ---- what a view shows
+
+pub shown_time : (b : List ℕ) (s : ViewParts) (r : Parts ℤ) → IsViewOf b s → WellFormed r b → s.instant ≡ r.time
+shown_time b s r (p, text, range, distinct, shown) (q, also, range', distinct', means) =
+    let same = same_parts p q b text also in
+    shown.instant ∙ same.header.time ∙ sym means.time

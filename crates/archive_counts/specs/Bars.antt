@@ -1,5 +1,5 @@
 -- The lines of a count as bars.
-use Rattle.std.specs.Prelude.{◌≡◌, ℕ, ◌+◌, ◌-◌, ◌*◌, ◌≤◌, List, [], ◌∷◌, ◌++◌, decimal, length, map, max, replicate}
+use Rattle.std.specs.Prelude.{◌≡◌, ℕ, ◌+◌, ◌-◌, ◌*◌, ◌≤◌, List, [], ◌∷◌, ◌++◌, decimal, length, max, replicate}
 use Rattle.octet_language.specs.Language.{Each, Language}
 use Rattle.archive_counts.specs.Lines.{Line, count_of}
 use Rattle.archive_counts.specs.Words.{spaced}

@@ -1,5 +1,5 @@
 -- A count under way.
-use Rattle.std.specs.Prelude.{◌≡◌, ℕ, List, [], ◌∷◌, ◌++◌}
+use Rattle.std.specs.Prelude.{List, [], ◌∷◌, ◌++◌}
 use Rattle.octet_devices.specs.Device.{InputState}
 use Rattle.archive_text.specs.Entries.{Entry}
 use Rattle.archive_streams.specs.Entries.{current, IsOpen, IsWhole, Reads}

@@ -25,8 +25,9 @@ count_of l = length l.entries
 abbrev pub octets_of : Line → ℕ
 octets_of l = length (text_of l.entries)
 
--- a line tells of all entries that have its words
+-- a line has a word for each key, and tells of all entries that have these words
 pub record IsLineOf (keys : List CountKey) (xs : List Entry) (l : Line) : Type 0 where
+  pub size : length l.words ≡ length keys
   pub selection : IsSelection (HasWords keys l.words) xs l.entries
   pub first : IsEarliest l.entries l.first
   pub last : IsLatest l.entries l.last

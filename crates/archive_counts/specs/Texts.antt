@@ -1,6 +1,6 @@
 -- The text of lines.
 use Rattle.std.specs.Prelude.{◌≡◌, ℕ, ℤ, List, [], ◌∷◌, ◌++◌, Option, decimal}
-use Rattle.octet_language.specs.Language.{Language, Each}
+use Rattle.octet_language.specs.Language.{Language}
 use Rattle.syslog_fields.specs.Canonical.{TimeForm}
 use Rattle.archive_counts.specs.Lines.{Line, count_of, octets_of}
 use Rattle.archive_counts.specs.Tallies.{IsTallyOf}

@@ -26,11 +26,11 @@ fn extremes(rows: &[Row]) -> (u64, usize)
     ensures largest { result.0 ≡ largest (map shown_row rows.now) }
     ensures longest { result.1 ≡ longest (map shown_row rows.now) }
 {
-    let mut largest = 0;
-    let mut longest = 0;
+    let mut largest: u64 = 0;
+    let mut longest: usize = 0;
     'rows: for row in rows {
         largest = largest.max(row.tally.records);
-        longest = longest.max(row.words.len());
+        longest = longest.max(row.words.as_slice().len());
     }
     (largest, longest)
 }

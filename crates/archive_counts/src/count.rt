@@ -54,20 +54,20 @@ fn lines_of(alloc: Global, options: &CountOptions, table: Table) -> Result<Vec<u
 }
 
 /// Reads an archive, the text of a set of records, and writes a line for each of the words that
-/// records have under the keys: `COUNT OCTETS FIRST LAST KEY..` and a line feed. COUNT is how many
-/// records there are, OCTETS how many octets their archive has, and FIRST and LAST are the earliest
-/// and the latest of their times in canonical form (RFC 5424, section 6.2.3), or `-` if none has
-/// one. The words stand in the order of the keys: a field is as it stands in the record, `-` if it
-/// has none; a day, an hour or a minute is the front of the canonical time, `undated` if there is
-/// none. Lines of more records come first, and those of as many by the octets of their words.
-/// Without keys there is one line, of all records, also of none.
+/// records have under the keys. In the plain form it is `COUNT OCTETS FIRST LAST KEY..`: COUNT is
+/// how many records there are, OCTETS how many octets their archive has, and FIRST and LAST are the
+/// earliest and the latest of their times in canonical form (RFC 5424, section 6.2.3), or `-` if
+/// none has one. The words stand in the order of the keys: a field is as it stands in the record,
+/// `-` if it has none; a day, an hour or a minute is the front of the canonical time, `undated` if
+/// there is none. Lines of more records come first, and those of as many by the octets of their
+/// words. Without keys there is one line, of all records, also of none.
 ///
 /// Room for two entries and for a piece of `ENTRIES_READ_MAX` octets of the reader is reserved
 /// first. Further memory grows with the number of lines alone.
 ///
 /// # Errors
-/// The first fault that is met. Nothing is written but after the whole archive was read, and then
-/// only the writer's fault leaves a part of the lines.
+/// The first fault that is met. Nothing is written before the whole archive was read, so only the
+/// writer's fault leaves a part of the lines.
 pub fn count_stream<R: Input, W: Output>(
     alloc: Global,
     options: &CountOptions,

@@ -26,9 +26,10 @@ impl Table {
         ensures { IfOk result (λ table. IsTableOf keys.now table []) }
     {
         let mut rows = BTreeMap::new(alloc);
-        if keys.is_empty() {
-            rows.insert(Vec::new(alloc), Tally::new())?;
+        if !keys.is_empty() {
+            return Ok(Table { rows, alloc });
         }
+        rows.insert(Vec::new(alloc), Tally::new())?;
         Ok(Table { rows, alloc })
     }
 
@@ -42,7 +43,8 @@ impl Table {
         }
         let mut tally = Tally::new();
         tally.add(entry);
-        self.rows.insert(Vec::from_slice(self.alloc, words)?, tally)?;
+        self.rows
+            .insert(Vec::from_slice(self.alloc, words)?, tally)?;
         Ok(())
     }
 

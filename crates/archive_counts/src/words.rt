@@ -1,6 +1,6 @@
 //! The words of a record under the keys that it is counted by.
 
-ghost use Rattle.std.specs.Prelude.{◌≡◌, ◌∷◌, [], ℤ, codes, option_map};
+ghost use Rattle.std.specs.Prelude.{◌≤◌, ℕ, ℤ, List, option_map};
 ghost use Rattle.octet_language.specs.Language.{Only};
 ghost use Rattle.syslog_value.specs.Parts.{Parts};
 ghost use Rattle.syslog_fields.specs.Appending.{Puts};
@@ -17,7 +17,9 @@ use syslog_value::{Instant, Priority};
 
 // How many octets of a canonical timestamp name a day, an hour and a minute.
 const DAY_LEN: usize = 10;
+
 const HOUR_LEN: usize = 13;
+
 const MINUTE_LEN: usize = 16;
 
 // Appends a word, or NILVALUE.
@@ -73,11 +75,7 @@ fn put_word(key: CountKey, shown: &RecordView<'_>, out: &mut Vec<u8>) -> Result<
 }
 
 // Appends the words of the record that a view shows, each behind a space.
-fn put_shown(
-    keys: &[CountKey],
-    shown: &RecordView<'_>,
-    out: &mut Vec<u8>,
-) -> Result<(), AllocError>
+fn put_shown(keys: &[CountKey], shown: &RecordView<'_>, out: &mut Vec<u8>) -> Result<(), AllocError>
     ensures { (b : List ℕ) (r : Parts ℤ) → IsViewOf b (view_parts shown.now) → WellFormed r b
         → Puts (WordsText keys.now r) out.old.items out.new.items result }
 {
@@ -94,6 +92,9 @@ pub fn put_words(keys: &[CountKey], octets: &[u8], out: &mut Vec<u8>) -> Result<
     ensures { (r : Parts ℤ) → WellFormed r octets.now
         → Puts (WordsText keys.now r) out.old.items out.new.items result }
 {
+    if keys.is_empty() {
+        return Ok(());
+    }
     match view(octets) {
         Ok(shown) => put_shown(keys, &shown, out),
         Err(_) => Ok(()),

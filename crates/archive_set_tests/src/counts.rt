@@ -11,8 +11,7 @@ const ALL: &[u8] = b"19 <13>1 - h a - - - x\
     45 <14>1 2024-02-29T23:30:00.000000Z g a - - - y\
     45 <14>1 2024-03-01T00:00:00.000000Z h - - - - y";
 
-const TOGETHER: &[u8] =
-    b"4 166 2024-02-29T23:00:00.000000Z 2024-03-01T00:00:00.000000Z\n";
+const TOGETHER: &[u8] = b"4 166 2024-02-29T23:00:00.000000Z 2024-03-01T00:00:00.000000Z\n";
 
 const HOSTS: &[u8] = b"3 118 2024-02-29T23:00:00.000000Z 2024-03-01T00:00:00.000000Z h
 1 48 2024-02-29T23:30:00.000000Z 2024-02-29T23:30:00.000000Z g
@@ -29,7 +28,8 @@ const SEVERITIES: &[u8] =
 1 22 - - user notice a undated
 ";
 
-const OBJECTS: &[u8] = br#"{"count":1,"octets":25,"first":null,"last":null,"host":"\"","app":null,"proc":"\\"}
+const OBJECTS: &[u8] =
+    br#"{"count":1,"octets":25,"first":null,"last":null,"host":"\"","app":null,"proc":"\\"}
 {"count":1,"octets":48,"first":"2024-02-29T23:00:00.000000Z","last":"2024-02-29T23:00:00.000000Z","host":"h","app":"a","proc":null}
 "#;
 
@@ -105,11 +105,51 @@ fn each_key_has_a_line(rt: HostRuntime) {
         &[
             (&[], None, CountForm::Lines, ALL, FINE, Ok(()), TOGETHER),
             (&[], None, CountForm::Lines, b"", FINE, Ok(()), b"0 0 - -\n"),
-            (&[CountKey::Host], None, CountForm::Lines, ALL, FINE, Ok(()), HOSTS),
-            (&[CountKey::Host], None, CountForm::Lines, b"", FINE, Ok(()), b""),
-            (&[CountKey::Day], None, CountForm::Lines, ALL, FINE, Ok(()), DAYS),
-            (&[CountKey::Host], Some(1), CountForm::Lines, ALL, FINE, Ok(()), &HOSTS[..64]),
-            (&MANY, Some(3), CountForm::Lines, ALL, FINE, Ok(()), SEVERITIES),
+            (
+                &[CountKey::Host],
+                None,
+                CountForm::Lines,
+                ALL,
+                FINE,
+                Ok(()),
+                HOSTS,
+            ),
+            (
+                &[CountKey::Host],
+                None,
+                CountForm::Lines,
+                b"",
+                FINE,
+                Ok(()),
+                b"",
+            ),
+            (
+                &[CountKey::Day],
+                None,
+                CountForm::Lines,
+                ALL,
+                FINE,
+                Ok(()),
+                DAYS,
+            ),
+            (
+                &[CountKey::Host],
+                Some(1),
+                CountForm::Lines,
+                ALL,
+                FINE,
+                Ok(()),
+                &HOSTS[..64],
+            ),
+            (
+                &MANY,
+                Some(3),
+                CountForm::Lines,
+                ALL,
+                FINE,
+                Ok(()),
+                SEVERITIES,
+            ),
         ],
     );
 }
@@ -131,7 +171,15 @@ fn each_key_has_a_bar(rt: HostRuntime) {
         &rt,
         &[
             (&[CountKey::Host], None, bars, ALL, FINE, Ok(()), HOST_BARS),
-            (&[CountKey::Hour], None, narrow, ALL, FINE, Ok(()), HOUR_BARS),
+            (
+                &[CountKey::Hour],
+                None,
+                narrow,
+                ALL,
+                FINE,
+                Ok(()),
+                HOUR_BARS,
+            ),
             (&[], None, bars, b"", FINE, Ok(()), b"0 \n"),
         ],
     );
@@ -146,8 +194,24 @@ fn nothing_is_written_before_the_end(rt: HostRuntime) {
         &rt,
         &[
             (&[], None, CountForm::Lines, &ALL[..120], FINE, cut, b""),
-            (&[], None, CountForm::Lines, ALL, ((22, 9), WORKS), unread, b""),
-            (&[], None, CountForm::Lines, ALL, (WORKS, (5, 9)), unwritten, &TOGETHER[..5]),
+            (
+                &[],
+                None,
+                CountForm::Lines,
+                ALL,
+                ((22, 9), WORKS),
+                unread,
+                b"",
+            ),
+            (
+                &[],
+                None,
+                CountForm::Lines,
+                ALL,
+                (WORKS, (5, 9)),
+                unwritten,
+                &TOGETHER[..5],
+            ),
         ],
     );
 }

@@ -1,5 +1,5 @@
 -- What `count` does.
-use Rattle.std.specs.Prelude.{◌≡◌, ℕ, Option, None, Some}
+use Rattle.std.specs.Prelude.{◌≡◌, ℕ, Option, Some}
 use Rattle.archive_counts.specs.Counted.{Counted, Stopped}
 use Rattle.archive_counts.specs.declared.options.CountOptions.{CountOptions}
 use Rattle.archive_sets.specs.Failures.{TellsFailures}

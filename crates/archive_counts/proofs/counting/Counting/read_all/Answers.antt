@@ -1,8 +1,8 @@
-use Rattle.std.proofs.Common.{rules, IsTrue, ◌≡◌, ◌<◌, ◌∙◌, refl, sym, subst}
+use Rattle.std.proofs.Common.{rules, IsTrue, ◌<◌, ◌∙◌, refl, sym, subst}
 use Rattle.std.proofs.lemmas.Result.{err_from_is_err_and}
 use Rattle.archive_streams.specs.Entries.{IsOpen, still_to_come}
 use Rattle.archive_streams.specs.declared.entries.ArchiveEntries.{ArchiveEntries}
-use Rattle.archive_counts.proofs.Steps.{halts, looks, tabling_none}
+use Rattle.archive_counts.proofs.Steps.{halts, looks, on_ok, tabling_none}
 use Rattle.archive_counts.proofs.counting.Counting.read_all.Goals as goal
 
 pub entries-init : goal.entries-init
@@ -19,7 +19,10 @@ entries-preserved g c =
     record {
       unclosed = subst IsOpen (sym c.take.ensures.entries) one.open_after;
       told = c.in_ok-advance.ensures.told ∙ c.entries.invariant.told;
-      tabling = ?;
+      tabling =
+          on_ok c.take.result _ (sym c.is_err.ensures.value ∙ c.if-is_err.false) c.take.ensures.taken _ _
+          (looks c.args.keys.now c.entries.self c.advance.new.self _ _ _ c.advance.ensures.kept one
+          c.entries.invariant.tabling);
     }
 
 pub entries-smaller : goal.entries-smaller
