@@ -188,10 +188,10 @@ abbrev pub with_socket_rules : App → App
 with_socket_rules a =
     with_rule (with_rule (with_address_rules a) (list_rule (codes "unix"))) (list_rule (codes "inherited"))
 
--- the options of `serve` on connections
+-- the options of `serve` on who may send, and on connections
 abbrev pub with_connection_rules : App → App
 with_connection_rules a =
-    with_rule (with_rule (with_rule a (default_rule (codes "connections") (codes "1024")))
+    with_rule (with_rule (with_rule (with_rule a (list_rule (codes "allow"))) (default_rule (codes "connections") (codes "1024")))
     (option_rule (codes "per-peer"))) (option_rule (codes "idle"))
 
 -- the options of `serve` that are numbers
