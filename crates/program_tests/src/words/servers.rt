@@ -153,3 +153,37 @@ fn serve_has_limits(rt: HostRuntime) -> Result<(), Fail> {
     }
     Ok(())
 }
+
+// how many networks may send
+fn allows(rt: &HostRuntime, words: &[&str]) -> Option<usize> {
+    match &asked(rt, words) {
+        Ok(Request::Serve { words: found }) => Some(found.allowed.len()),
+        _ => None,
+    }
+}
+
+#[test]
+fn serve_takes_networks_that_may_send(rt: HostRuntime) -> Result<(), Fail> {
+    let words = [
+        "serve",
+        "d",
+        "--unix=p",
+        "--allow",
+        "192.0.2.1",
+        "--allow=192.0.2.0/24",
+        "--allow=2001:db8::/32",
+    ];
+    assert_eq!(rt; allows(&rt, &words), Some(3));
+    assert_eq!(rt; allows(&rt, &words[..3]), Some(0));
+    for network in [
+        "",
+        "localhost",
+        "192.0.2.0/33",
+        "192.0.2.1/24",
+        "::/129",
+        "::1/0",
+    ] {
+        refuses_all(&rt, &[&["serve", "d", "--unix", "p", "--allow", network]])?;
+    }
+    Ok(())
+}
