@@ -2,7 +2,6 @@
 use Rattle.std.proofs.Common.{◌≡◌, ℕ, ◌^◌, ◌<◌, List, [], ◌∷◌, ◌++◌, Option, length, refl, sym, ap, subst, false, ◌∙◌, arith}
 use Rattle.std.proofs.lemmas.List.{length-append}
 use Rattle.octet_devices.specs.Device.{InputState}
-use Rattle.octet_language.specs.Language.{AnyOf}
 use Rattle.syslog_value.specs.Parts.{Parts}
 use Rattle.std.specs.Prelude.{ℤ, OnOk, Result, Ok, Err, is_err}
 use Rattle.syslog_fields.specs.Appending.{Adds}
@@ -44,23 +43,29 @@ pub on_ok : {X E : Type 0} (r : Result X E) (P : Type 0) → is_err r ≡ false 
 on_ok (Ok x) P good h = h
 on_ok (Err e) P good h = absurd cc
 
--- the octets of an entry of an archive are a record
-entry_record : (e : Entry) → IsEntry e → AnyOf WellFormed e.octets
-entry_record e (r, h) = (r, canonical_well_formed r e.octets h.valid h.canonical)
+-- an entry of an archive is of a record, and of its instant
+record OfRecord (e : Entry) : Type 0 where
+  of : Parts ℤ
+  known : WellFormed of e.octets
+  time : of.time ≡ e.instant
+
+entry_record : (e : Entry) → IsEntry e → OfRecord e
+entry_record e (r, h) =
+    record { of = r; known = canonical_well_formed r e.octets h.valid h.canonical; time = sym h.instant }
 
 -- it goes into the table, by the words of its record
 pub takes : (keys : List CountKey) (s t : Counting) (x : Entry) (text : List ℕ) (d e : InputState)
     → x ≡ current s.entries → t.entries ≡ s.entries
-    → ((r : Parts ℤ) → WellFormed r x.octets → WordsText keys r text) → AddsTo s.table t.table text x
+    → ((r : Parts ℤ) → WellFormed r x.octets → r.time ≡ x.instant → WordsText keys r text) → AddsTo s.table t.table text x
     → Looking keys s d e → Tabling keys t d e
 takes keys s t x text d e is same words adds w =
     let reads : Reads s.entries d e (w.xs ++ x ∷ []) =
     subst (λ (y : Entry). Reads s.entries d e (w.xs ++ y ∷ [])) (sym is) w.reads in
     let read : IsBegun d e (w.xs ++ x ∷ []) = begun s.entries d e (w.xs ++ x ∷ []) reads in
-    let one : AnyOf WellFormed x.octets =
+    let one : OfRecord x =
     entry_record x (of_member IsEntry (w.xs ++ x ∷ []) x read.archive.entries (has_right w.xs (x ∷ []) x (inl refl))) in
     let has : HasText keys text x =
-    record { of = one.0; well_formed = one.1; holds = words one.0 one.1 } in
+    record { of = one.of; well_formed = one.known; holds = words one.of one.known one.time } in
     let short : length (text_of (w.xs ++ x ∷ [])) < 2 ^ 64 =
     omega (arith, read.short, ap length read.parts, length-append (text_of (w.xs ++ x ∷ [])) read.rest) in
     record {
@@ -77,11 +82,11 @@ words_are r keys old new text none is (added, words, e) =
 
 pub takes_words : {X E : Type 0} (keys : List CountKey) (s t : Counting) (x : Entry) (old new text : List ℕ)
     (result : Result X E) → x ≡ current s.entries → old ≡ []
-    → ((r : Parts ℤ) → WellFormed r x.octets → Adds (WordsText keys r) old new) → text ≡ new
+    → ((r : Parts ℤ) → WellFormed r x.octets → r.time ≡ x.instant → Adds (WordsText keys r) old new) → text ≡ new
     → OnOk result (AddsTo s.table t.table text x) → t.entries ≡ s.entries
     → OnOk result ((d e : InputState) → Looking keys s d e → Tabling keys t d e)
 takes_words keys s t x old new text (Ok y) is none words text_is adds same = λ d e w.
-    takes keys s t x text d e is same (λ r known. words_are r keys old new text none text_is (words r known)) adds w
+    takes keys s t x text d e is same (λ r known time. words_are r keys old new text none text_is (words r known time)) adds w
 takes_words keys s t x old new text (Err y) is none words text_is adds same = adds
 
 -- or a fault halts it

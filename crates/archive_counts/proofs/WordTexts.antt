@@ -6,6 +6,7 @@ use Rattle.std.proofs.lemmas.Bool.Decides.{nat_tests}
 use Rattle.std.proofs.lemmas.Grind.{common_steps}
 use Rattle.std.specs.List.{AllByRecursion}
 use Rattle.std.proofs.lemmas.List.{append_cancel_left, take-append-drop, take_all, take_more}
+use Rattle.std.proofs.lemmas.List.Elements.{All-get_or}
 use Rattle.std.proofs.lemmas.List.Concat.{flat_map-append}
 use Rattle.octet_language.specs.Language.{Only}
 use Rattle.octet_language.proofs.Lists.{AllByRecursion-append, AllByRecursion-left, AllByRecursion-weaker, same_until, tails}
@@ -27,8 +28,8 @@ use Rattle.syslog_reading.specs.WellFormed.{WellFormed}
 use Rattle.syslog_reading.proofs.Laws.{one_meaning, same_parts}
 use Rattle.syslog_reading.proofs.Valid.{well_formed_valid}
 use Rattle.archive_text.specs.Entries.{Entry}
-use Rattle.archive_counts.specs.Words.{AreSpaced, AreWordsOf, HasText, HasWords, IsFree, IsPeriodWord, IsWordOf}
-use Rattle.archive_counts.specs.Words.{WordsText, spaced}
+use Rattle.archive_counts.specs.Words.{ArePeriods, AreSpaced, AreWordsOf, HasText, HasWords, IsFree, IsPeriodWord, IsWordOf}
+use Rattle.archive_counts.specs.Words.{WordsText, period_len, spaced}
 use Rattle.archive_counts.specs.declared.key.CountKey.{CountKey}
 use Rattle.archive_counts.specs.declared.key.CountKey.TheVariants as key
 
@@ -294,3 +295,30 @@ pub shown_time : (b : List ℕ) (s : ViewParts) (r : Parts ℤ) → IsViewOf b s
 shown_time b s r (p, text, range, distinct, shown) (q, also, range', distinct', means) =
     let same = same_parts p q b text also in
     shown.instant ∙ same.header.time ∙ sym means.time
+
+-- ---- the words that are periods
+
+pub period_word : (k : CountKey) (r : Parts ℤ) (i : Option ℤ) (w : List ℕ) → r.time ≡ i → 0 < period_len k
+    → IsPeriodWord (period_len k) i w → IsWordOf k r w
+period_word key.Host r i w is some h = absurd (omega (arith, some))
+period_word key.App r i w is some h = absurd (omega (arith, some))
+period_word key.Proc r i w is some h = absurd (omega (arith, some))
+period_word key.Msgid r i w is some h = absurd (omega (arith, some))
+period_word key.Facility r i w is some h = absurd (omega (arith, some))
+period_word key.Severity r i w is some h = absurd (omega (arith, some))
+period_word key.Day r i w is some h = subst (λ (t : Option ℤ). IsPeriodWord 10 t w) (sym is) h
+period_word key.Hour r i w is some h = subst (λ (t : Option ℤ). IsPeriodWord 13 t w) (sym is) h
+period_word key.Minute r i w is some h = subst (λ (t : Option ℤ). IsPeriodWord 16 t w) (sym is) h
+
+pub period_step : (keys : List CountKey) (i : ℕ) (d : CountKey) (r : Parts ℤ) (time : Option ℤ) (len : ℕ)
+    (old out mid new : List ℕ) → i < length keys → r.time ≡ time → ArePeriods keys → len ≡ period_len (get_or keys i d)
+    → Adds (WordsText (take i keys) r) old out → Adds (Only (32 ∷ [])) out mid → Adds (IsPeriodWord len time) mid new
+    → Adds (WordsText (take (i + 1) keys) r) old new
+period_step keys i d r time len old out mid new within is all size words space (word, one, g) =
+    let k : CountKey = get_or keys i d in
+    words_step keys i d r old out mid new within words space (
+      word,
+      period_word k r time word is (All-get_or (λ (x : CountKey). 0 < period_len x) keys i d within all)
+          (subst (λ (n : ℕ). IsPeriodWord n time word) size one),
+      g,
+    )

@@ -1,6 +1,6 @@
 -- The words of a record under the keys that it is counted by.
-use Rattle.std.specs.Prelude.{◌≡◌, ◌≢◌, ℕ, ℤ, ◌/◌, ◌%◌, List, [], ◌∷◌, Option, None, Some, codes, length, take}
-use Rattle.std.specs.List.{AllByRecursion, flat_map}
+use Rattle.std.specs.Prelude.{◌≡◌, ◌≢◌, ℕ, ℤ, ◌<◌, ◌/◌, ◌%◌, List, [], ◌∷◌, Option, None, Some, codes, length, take}
+use Rattle.std.specs.List.{All, AllByRecursion, flat_map}
 use Rattle.syslog_value.specs.Facilities.{facility_code, facility_name}
 use Rattle.syslog_value.specs.Parts.{Parts}
 use Rattle.syslog_value.specs.Severities.{severity_code, severity_name}
@@ -36,6 +36,22 @@ IsWordOf by_Severity r word = IsSeverityWord r.priority word
 IsWordOf Day r word = IsPeriodWord 10 r.time word
 IsWordOf Hour r word = IsPeriodWord 13 r.time word
 IsWordOf Minute r word = IsPeriodWord 16 r.time word
+
+-- how many octets of a canonical timestamp are the word; none of them where the word is another
+abbrev pub period_len : CountKey → ℕ
+period_len Host = 0
+period_len App = 0
+period_len Proc = 0
+period_len Msgid = 0
+period_len by_Facility = 0
+period_len by_Severity = 0
+period_len Day = 10
+period_len Hour = 13
+period_len Minute = 16
+
+-- the words are periods, which the instant of a record tells alone
+abbrev pub ArePeriods : List CountKey → Type 0
+ArePeriods keys = All (λ key. 0 < period_len key) keys
 
 -- one for each key, in their order
 abbrev pub AreWordsOf : List CountKey → Parts ℤ → List (List ℕ) → Type 0

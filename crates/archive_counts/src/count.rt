@@ -1,10 +1,10 @@
 //! The count of an archive.
 
 ghost use Rattle.std.specs.Prelude.{◌≡◌, IfOk, IsErrOf, List, MatchResult};
+ghost use Rattle.syslog_fields.specs.Appending.{Puts};
 ghost use Rattle.archive_text.specs.Entries.{Entry};
 ghost use Rattle.archive_sets.specs.Failures.{TellsFailures};
 ghost use Rattle.archive_counts.specs.Counted.{Counted, HasLines, RowsText, Stopped};
-ghost use Rattle.syslog_fields.specs.Appending.{Puts};
 ghost use Rattle.archive_counts.specs.Lines.{first_of};
 ghost use Rattle.archive_counts.specs.Tables.{IsTableOf};
 

@@ -68,7 +68,7 @@ impl Counting {
     {
         let entry = self.entries.entry();
         self.words.clear();
-        put_words(keys, entry.octets, &mut self.words)?;
+        put_words(keys, &entry, &mut self.words)?;
         self.table.add(self.words.as_slice(), &entry)
     }
 

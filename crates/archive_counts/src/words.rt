@@ -1,15 +1,17 @@
 //! The words of a record under the keys that it is counted by.
 
-ghost use Rattle.std.specs.Prelude.{◌≤◌, ℕ, ℤ, List, option_map};
+ghost use Rattle.std.specs.Prelude.{◌≡◌, ◌≤◌, ◌↔◌, ℕ, ℤ, List, option_map, IsTrue};
 ghost use Rattle.octet_language.specs.Language.{Only};
 ghost use Rattle.syslog_value.specs.Parts.{Parts};
 ghost use Rattle.syslog_fields.specs.Appending.{Puts};
 ghost use Rattle.syslog_fields.specs.Canonical.{word_form};
 ghost use Rattle.syslog_reading.specs.ViewParts.{IsViewOf, view_parts};
 ghost use Rattle.syslog_reading.specs.WellFormed.{WellFormed};
-ghost use Rattle.archive_counts.specs.Words.{IsFacilityWord, IsPeriodWord, IsSeverityWord, IsWordOf, WordsText};
+ghost use Rattle.archive_counts.specs.Words.{ArePeriods, IsFacilityWord, IsPeriodWord, IsSeverityWord};
+ghost use Rattle.archive_counts.specs.Words.{IsWordOf, WordsText, period_len};
 
 use crate::key::CountKey;
+use archive_text::EntryView;
 use std::alloc::AllocError;
 use syslog_fields::appending::put;
 use syslog_grammar::{RecordView, canonical_timestamp, view};
@@ -21,6 +23,26 @@ const DAY_LEN: usize = 10;
 const HOUR_LEN: usize = 13;
 
 const MINUTE_LEN: usize = 16;
+
+// How many octets of a canonical timestamp are the word; 0 if it is another.
+fn period_len(key: CountKey) -> usize
+    ensures value { result ≡ period_len key }
+    ensures range { result ≤ 27 }
+{
+    match key {
+        CountKey::Day => DAY_LEN,
+        CountKey::Hour => HOUR_LEN,
+        CountKey::Minute => MINUTE_LEN,
+        _ => 0,
+    }
+}
+
+// Whether all words are periods.
+fn are_periods(keys: &[CountKey]) -> bool
+    ensures { IsTrue result ↔ ArePeriods keys.now }
+{
+    keys.iter().all(|key| period_len(*key) > 0)
+}
 
 // Appends a word, or NILVALUE.
 fn put_field(word: Option<&[u8]>, out: &mut Vec<u8>) -> Result<(), AllocError>
@@ -86,16 +108,36 @@ fn put_shown(keys: &[CountKey], shown: &RecordView<'_>, out: &mut Vec<u8>) -> Re
     Ok(())
 }
 
-/// Appends the words of the record that octets are, each behind a space. If memory is refused, a
-/// part may have been appended.
-pub fn put_words(keys: &[CountKey], octets: &[u8], out: &mut Vec<u8>) -> Result<(), AllocError>
-    ensures { (r : Parts ℤ) → WellFormed r octets.now
+// Appends the words of the record of an entry, each behind a space, if they are periods.
+fn put_periods(
+    keys: &[CountKey],
+    entry: &EntryView<'_>,
+    out: &mut Vec<u8>,
+) -> Result<(), AllocError>
+    ensures { (r : Parts ℤ) → r.time ≡ entry.now.instant → ArePeriods keys.now
         → Puts (WordsText keys.now r) out.old.items out.new.items result }
 {
-    if keys.is_empty() {
-        return Ok(());
+    'keys: for key in keys {
+        put(b" ", out)?;
+        put_period(period_len(*key), entry.instant, out)?;
     }
-    match view(octets) {
+    Ok(())
+}
+
+/// Appends the words of the record of an entry, each behind a space. If memory is refused, a part
+/// may have been appended.
+pub fn put_words(
+    keys: &[CountKey],
+    entry: &EntryView<'_>,
+    out: &mut Vec<u8>,
+) -> Result<(), AllocError>
+    ensures { (r : Parts ℤ) → WellFormed r entry.now.octets.now → r.time ≡ entry.now.instant
+        → Puts (WordsText keys.now r) out.old.items out.new.items result }
+{
+    if are_periods(keys) {
+        return put_periods(keys, entry, out);
+    }
+    match view(entry.octets) {
         Ok(shown) => put_shown(keys, &shown, out),
         Err(_) => Ok(()),
     }

@@ -1,16 +1,7 @@
-use Rattle.std.proofs.Common.{List, subst, sym}
-use Rattle.syslog_fields.specs.Appending.{Adds}
-use Rattle.archive_counts.specs.Words.{WordsText}
-use Rattle.archive_counts.specs.declared.key.CountKey.{CountKey}
-use Rattle.archive_counts.proofs.Tables.{no_keys}
-use Rattle.archive_counts.proofs.WordTexts.{words_begin}
 use Rattle.archive_counts.proofs.words.put_words.Goals as goal
 
-pub returns-then-is_empty : goal.returns-then-is_empty
-returns-then-is_empty c = λ r known.
-    subst (λ (l : List CountKey). Adds (WordsText l r) c.args.out.now.items c.args.out.now.items)
-    (sym (no_keys c.args.keys.now c.is_empty.result c.is_empty.ensures c.if-is_empty.true))
-    (words_begin r c.args.out.now.items)
+pub returns-then-are_periods : goal.returns-then-are_periods
+returns-then-are_periods c = λ r known time. c.put_periods.ensures r time (c.are_periods.ensures.0 c.if-are_periods.true)
 
 pub returns-in-Ok : goal.returns-in-Ok
-returns-in-Ok c = λ r known. c.put_shown.ensures c.args.octets.now r c.in-Ok.ensures.whole known
+returns-in-Ok c = λ r known time. c.put_shown.ensures c.args.entry.now.octets.now r c.in-Ok.ensures.whole known
