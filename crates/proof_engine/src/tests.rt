@@ -318,8 +318,8 @@ fn devices_that_fail_are_told(rt: HostRuntime) {
 #[test]
 fn no_octet_is_read_behind_that_behind_the_bound(rt: HostRuntime) {
     let text: &[u8] = b"12345";
-    for (limit, is_whole) in [(9, true), (5, true), (4, false), (0, false)] {
-        let mut reader = Fuse::new(FromRead::new(text), limit as u64 + 1, u64::MAX);
+    for (limit, room, is_whole) in [(9, 10, true), (5, 6, true), (4, 5, false), (0, 1, false)] {
+        let mut reader = Fuse::new(FromRead::new(text), room, u64::MAX);
         match read_text(rt.alloc(), &mut reader, limit) {
             Ok(read) => assert!(rt; is_whole && read.as_slice() == text),
             Err(fault) => assert!(rt; !is_whole && fault == TextFault::TooLong),
