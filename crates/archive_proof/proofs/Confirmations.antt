@@ -119,13 +119,13 @@ confirmed head xs (e ∷ es) (p ∷ ps) [] answers text rest left proofs made is
 confirmed head xs (e ∷ es) (p ∷ ps) (q ∷ qs) [] text rest left proofs made is read begins says h = absurd says
 confirmed head xs (e ∷ es) (p ∷ ps) (q ∷ qs) (a ∷ answers) text rest left proofs made is (behind, first, only, others)
     begins says h =
-        let one = only p (flat_map proof_text ps) made.0.proof is in
-        let next : behind ≡ flat_map proof_text qs ++ rest =
-        append_cancel_left (proof_text q) behind (flat_map proof_text qs ++ rest)
-        (sym first ∙ begins ∙ append_assoc (proof_text q) (flat_map proof_text qs) rest) in
-        let fewer : IsLeft (length es) (length qs) rest left =
-        fewer_left (length es) (length qs) rest left
-        (subst (λ (n : ℕ). IsLeft n (length qs + 1) rest left) (omega arith)
-        (subst (λ (n : ℕ). IsLeft (length (e ∷ es)) n rest left) (omega arith) h)) in
-        let then = confirmed head xs es ps qs answers behind rest left proofs.1 made.1 one.1 others next says.1 fewer in
-        (then.0, (right_by head xs e q p a one.0 proofs.0 says.0, then.1))
+    let one = only p (flat_map proof_text ps) made.0.proof is in
+    let next : behind ≡ flat_map proof_text qs ++ rest =
+    append_cancel_left (proof_text q) behind (flat_map proof_text qs ++ rest)
+    (sym first ∙ begins ∙ append_assoc (proof_text q) (flat_map proof_text qs) rest) in
+    let fewer : IsLeft (length es) (length qs) rest left =
+    fewer_left (length es) (length qs) rest left
+    (subst (λ (n : ℕ). IsLeft n (length qs + 1) rest left) (omega arith)
+    (subst (λ (n : ℕ). IsLeft (length (e ∷ es)) n rest left) (omega arith) h)) in
+    let then = confirmed head xs es ps qs answers behind rest left proofs.1 made.1 one.1 others next says.1 fewer in
+    (then.0, (right_by head xs e q p a one.0 proofs.0 says.0, then.1))

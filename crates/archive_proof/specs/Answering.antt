@@ -58,7 +58,7 @@ pub record AreAnswered (head : TreeHead) (es : List Entry) (text : List ℕ) (an
 abbrev pub AnswersNext : TreeHead → Entry → Option (List ℕ) → Answer → Option (List ℕ) → Type 0
 AnswersNext head e None a left = (a ≡ answer.NotShown) × (left ≡ None)
 AnswersNext head e (Some text) a None = (a ≡ answer.NotShown) × HasNoProof text
-AnswersNext head e (Some text) a (Some left) = 
+AnswersNext head e (Some text) a (Some left) =
     (p : Proof) × (text ≡ proof_text p ++ left) × IsOnlyProof text p left × Says head e p a
 
 -- what is answered of an entry is whether it is one of these
