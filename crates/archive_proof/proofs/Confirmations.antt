@@ -1,13 +1,13 @@
 -- A text of proofs that is made is confirmed.
-use Rattle.std.proofs.Common.{◌≡◌, ℕ, ◌+◌, ◌<◌, ◌⊎◌, inl, inr, List, [], ◌∷◌, ◌++◌, length, refl, sym, ap, subst, ◌∙◌}
+use Rattle.std.proofs.Common.{◌≡◌, ℕ, ◌+◌, inl, inr, List, [], ◌∷◌, ◌++◌, length, refl, sym, ap, subst, ◌∙◌}
 use Rattle.std.proofs.Common.{arith, append_assoc}
 use Rattle.std.proofs.lemmas.List.{append_cancel_left}
 use Rattle.std.specs.Prelude.{Option, None, Some}
 use Rattle.std.specs.List.{AllByRecursion, flat_map}
-use Rattle.archive_text.specs.Entries.{Entry, Has}
+use Rattle.archive_text.specs.Entries.{Entry}
 use Rattle.archive_tree.specs.declared.audit_path.AuditPath.{AuditPath}
 use Rattle.archive_tree.specs.declared.head.TreeHead.{TreeHead}
-use Rattle.archive_proof.specs.Answering.{AllSay, AreRead, AreRight, HasNoProof, IsLeft, IsRight, Says}
+use Rattle.archive_proof.specs.Answering.{AllSay, AreRead, AreRight, IsLeft, IsRight, Says}
 use Rattle.archive_proof.specs.Proving.{AreProofsOf, IsProofOf}
 use Rattle.archive_proof.specs.Reading.{AreSame, AreSameSides, IsMade}
 use Rattle.archive_proof.specs.Showing.{Leads, Parts, ShowsAbsent, ShowsPresent, StandsBefore, StandsBehind}

@@ -1,18 +1,16 @@
 -- Proofs that are made are such as can be read, and their texts are not too long.
-use Rattle.std.proofs.Common.{◌≡◌, ℕ, zero, suc, ◌+◌, ◌-◌, ◌*◌, ◌/◌, ◌%◌, ◌^◌, ◌<◌, ◌≤◌, inl, inr, List, [], ◌∷◌, ◌++◌}
-use Rattle.std.proofs.Common.{Bool, true, false, length, take, drop, refl, sym, ap, subst, ◌∙◌, arith, length-append}
-use Rattle.std.specs.Prelude.{Some, None, Option, Vec, codes, decimal, nat_le, nat_lt, if◌then◌else◌, slice_index}
+use Rattle.std.proofs.Common.{◌≡◌, ℕ, zero, suc, ◌-◌, ◌*◌, ◌/◌, ◌%◌, ◌^◌, ◌<◌, ◌≤◌, List, [], ◌∷◌, ◌++◌}
+use Rattle.std.proofs.Common.{Bool, true, false, length, take, drop, refl, sym, ap, subst, arith, length-append}
+use Rattle.std.specs.Prelude.{Some, None, Option, codes, decimal, nat_le, nat_lt, if◌then◌else◌, slice_index}
 use Rattle.std.specs.List.{AllByRecursion, flat_map}
 use Rattle.std.specs.Int.{byte_at, bytes_high_first, to_be_bytes, w32}
-use Rattle.std.specs.declared.alloc.Global.{Global}
 use Rattle.std.proofs.lemmas.Fmt.{length-decimal-le}
 use Rattle.sha2.specs.Sha256.{digest_bytes, final_hash, initial_hash_256, sha256}
 use Rattle.sha2.proofs.Facts256.{length-sha256}
 use Rattle.hex.specs.Hex.{encode_lower, IsBytes, lower_digits}
 use Rattle.hex.proofs.HexLemmas.{length-encode_with}
 use Rattle.archive_text.specs.Entries.{Entry}
-use Rattle.archive_text.specs.declared.limits.TheConstants.{ENTRY_MAX}
-use Rattle.archive_text.proofs.Members.{all_append, of_member}
+use Rattle.archive_text.proofs.Members.{all_append}
 use Rattle.archive_tree.proofs.Archives.{count_of_texts}
 use Rattle.archive_tree.proofs.TreeLaws.{path_is_short}
 use Rattle.archive_tree.specs.Archives.{texts_of}
@@ -20,8 +18,8 @@ use Rattle.archive_tree.specs.Tree.{audit_path, hash_of_one, hash_to, path_to}
 use Rattle.archive_tree.specs.declared.head.TreeHead.{TreeHead}
 use Rattle.archive_tree.specs.declared.audit_path.AuditPath.{AuditPath}
 use Rattle.archive_proof.specs.Proving.{AreProofsOf, IsTextOfProofs}
-use Rattle.archive_proof.specs.Reading.{IsHash, IsMade, IsNeighbour, IsPath, IsProof, IsShort, IsShortSide, IsSide}
-use Rattle.archive_proof.specs.Texts.{beside_text, hash_line, neighbour_text, path_text, proof_text, side_text}
+use Rattle.archive_proof.specs.Reading.{IsHash, IsMade, IsPath, IsShortSide, IsSide}
+use Rattle.archive_proof.specs.Texts.{hash_line, neighbour_text, path_text, proof_text, side_text}
 use Rattle.archive_proof.specs.declared.proof.Neighbour.{Neighbour}
 use Rattle.archive_proof.specs.declared.proof.Proof.{Proof}
 use Rattle.archive_proof.specs.declared.proof.Proof.TheVariants.{Present, Absent}

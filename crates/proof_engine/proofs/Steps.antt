@@ -1,14 +1,12 @@
 -- The steps of reading an archive into its tree.
-use Rattle.std.proofs.Common.{◌≡◌, ℕ, ◌+◌, ◌^◌, ◌<◌, ◌≤◌, List, [], ◌∷◌, ◌++◌, Option, length, refl, sym, ap, subst}
-use Rattle.std.proofs.Common.{◌∙◌, arith}
-use Rattle.std.specs.Prelude.{Result, Ok, Err}
+use Rattle.std.proofs.Common.{◌≡◌, ℕ, ◌+◌, ◌^◌, ◌<◌, List, [], ◌∷◌, ◌++◌, Option, length, refl, sym, ap, subst}
+use Rattle.std.proofs.Common.{arith}
 use Rattle.std.proofs.lemmas.List.{length-append}
-use Rattle.octet_devices.specs.Device.{InputState, OutputState}
+use Rattle.octet_devices.specs.Device.{InputState}
 use Rattle.archive_text.specs.Entries.{Entry}
 use Rattle.archive_text.specs.Text.{text_of}
-use Rattle.archive_text.proofs.Texts.{text_length}
 use Rattle.archive_streams.specs.Entries.{current, IsBegun, Reads, ReadsOne}
-use Rattle.archive_streams.proofs.EntrySteps.{begun, begun_whole}
+use Rattle.archive_streams.proofs.EntrySteps.{begun}
 use Rattle.archive_sets.proofs.Selecting.{no_more_than_octets}
 use Rattle.archive_sets.specs.Selecting.{IsHalt}
 use Rattle.archive_sets.specs.declared.fault.SelectFault.{SelectFault}
@@ -17,8 +15,8 @@ use Rattle.archive_tree.specs.Archives.{texts_of}
 use Rattle.archive_tree.specs.Trees.{HasTaken}
 use Rattle.archive_tree.specs.declared.stream.TreeStream.{TreeStream}
 use Rattle.archive_tree.proofs.Archives.{count_of_texts, texts_append}
-use Rattle.proof_engine.specs.Rooted.{IsUnwritten, Stopped}
-use Rattle.proof_engine.specs.Rooting.{Halted, IsFresh, IsOfInput, Taking}
+use Rattle.proof_engine.specs.Rooted.{Stopped}
+use Rattle.proof_engine.specs.Rooting.{Halted, IsFresh, Taking}
 use Rattle.proof_engine.specs.declared.rooting.Rooting.{Rooting}
 
 pub taking_none : (s : Rooting) (d : InputState) → IsFresh s → Taking s d d

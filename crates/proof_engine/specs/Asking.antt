@@ -1,5 +1,5 @@
 -- The records that are asked for, from an input.
-use Rattle.std.specs.Prelude.{◌≡◌, ℕ, ◌≤◌, List, [], ◌++◌, Option, None, Some, Result, Ok, Err, codes, length}
+use Rattle.std.specs.Prelude.{◌≡◌, ℕ, ◌≤◌, List, [], ◌++◌, Result, Err, codes, length}
 use Rattle.std.specs.List.{AllByRecursion}
 use Rattle.octet_devices.specs.Device.{InputState, count_on}
 use Rattle.archive_text.specs.Entries.{Entry, IsEntry}

@@ -1,5 +1,5 @@
 -- The tree of an archive under way.
-use Rattle.std.specs.Prelude.{◌≡◌, ℕ, List, []}
+use Rattle.std.specs.Prelude.{List, []}
 use Rattle.octet_devices.specs.Device.{InputState}
 use Rattle.archive_text.specs.Entries.{Entry}
 use Rattle.archive_streams.specs.Entries.{IsOpen, IsWhole, Reads}

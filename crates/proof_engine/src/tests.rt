@@ -13,35 +13,51 @@ const NONE: &[u8] = b"0 e3b0c44298fc1c149afbf4c8996fb92427ae41e4649b934ca495991b
 
 const ROOT: &[u8] = b"2 c4a21e4714a5ffedb92d54bd40784bf01c99de77f555ebe18f055b6f8467e786\n";
 
-// records and their proofs: the first entry, and the second one in another spelling
+// an archive of three records, and the hash of its tree
+const THREE: &[u8] = b"19 <13>1 - h a - - - x45 <12>1 2024-02-29T23:00:00.000000Z h a - - - z\
+    45 <14>1 2024-03-01T00:00:00.000000Z h a - - - y";
+
+const HASH: &[u8] = b"b2ca812d8b8b106a59147797c1110fef415ed83472feda484e915a67767c692a";
+
+// records and their proofs: its entries, the last two in another spelling
 const FIRST: &[u8] = b"19 <13>1 - h a - - - x";
 
-const FIRST_PROOF: &[u8] =
-    b"present 0 1\n2416db0bca0d13c1c979e96f66be4b197a52c2ee76f35ed7cfa4ca12a4f7ae5f\n\n";
+const FIRST_PROOF: &[u8] = b"present 0 2\n\
+    2416db0bca0d13c1c979e96f66be4b197a52c2ee76f35ed7cfa4ca12a4f7ae5f\n\
+    26ea6b6146b2921a6c2334797ad60424f78ba55bdf654a3a0550ebab538ccd04\n\n";
 
 const SECOND: &[u8] = b"38 <12>1 2024-02-29T23:00:00Z h a - - - z";
 
-const SECOND_PROOF: &[u8] =
-    b"present 1 1\na54f2a5923f10eb02db5ff1a1522f153c009b103cb733b67c7942d2fd1b5df21\n\n";
+const SECOND_PROOF: &[u8] = b"present 1 2\n\
+    a54f2a5923f10eb02db5ff1a1522f153c009b103cb733b67c7942d2fd1b5df21\n\
+    26ea6b6146b2921a6c2334797ad60424f78ba55bdf654a3a0550ebab538ccd04\n\n";
 
-// those of a record before both of them, of one between them, and of one behind them
+const THIRD: &[u8] = b"45 <14>1 2024-03-01T01:00:00.0+01:00 h a - - - y";
+
+const THIRD_PROOF: &[u8] = b"present 2 1\n\
+    c4a21e4714a5ffedb92d54bd40784bf01c99de77f555ebe18f055b6f8467e786\n\n";
+
+// those of a record before all of them, of one between the first two, and of one behind all of them
 const BEFORE: &[u8] = b"19 <13>1 - h a - - - a";
 
-const BEFORE_PROOF: &[u8] = b"absent\nbehind 19 <13>1 - h a - - - x\n0 1\n\
-    2416db0bca0d13c1c979e96f66be4b197a52c2ee76f35ed7cfa4ca12a4f7ae5f\n\n";
+const BEFORE_PROOF: &[u8] = b"absent\nbehind 19 <13>1 - h a - - - x\n0 2\n\
+    2416db0bca0d13c1c979e96f66be4b197a52c2ee76f35ed7cfa4ca12a4f7ae5f\n\
+    26ea6b6146b2921a6c2334797ad60424f78ba55bdf654a3a0550ebab538ccd04\n\n";
 
 const BETWEEN: &[u8] = b"19 <13>1 - h a - - - y";
 
-const BETWEEN_PROOF: &[u8] = b"absent\nbefore 19 <13>1 - h a - - - x\n0 1\n\
+const BETWEEN_PROOF: &[u8] = b"absent\nbefore 19 <13>1 - h a - - - x\n0 2\n\
     2416db0bca0d13c1c979e96f66be4b197a52c2ee76f35ed7cfa4ca12a4f7ae5f\n\
-    behind 45 <12>1 2024-02-29T23:00:00.000000Z h a - - - z\n1 1\n\
-    a54f2a5923f10eb02db5ff1a1522f153c009b103cb733b67c7942d2fd1b5df21\n\n";
+    26ea6b6146b2921a6c2334797ad60424f78ba55bdf654a3a0550ebab538ccd04\n\
+    behind 45 <12>1 2024-02-29T23:00:00.000000Z h a - - - z\n1 2\n\
+    a54f2a5923f10eb02db5ff1a1522f153c009b103cb733b67c7942d2fd1b5df21\n\
+    26ea6b6146b2921a6c2334797ad60424f78ba55bdf654a3a0550ebab538ccd04\n\n";
 
-const BEHIND: &[u8] = b"38 <12>1 2024-03-01T00:00:00Z h a - - - z";
+const BEHIND: &[u8] = b"38 <12>1 2024-03-02T00:00:00Z h a - - - z";
 
 const BEHIND_PROOF: &[u8] =
-    b"absent\nbefore 45 <12>1 2024-02-29T23:00:00.000000Z h a - - - z\n1 1\n\
-    a54f2a5923f10eb02db5ff1a1522f153c009b103cb733b67c7942d2fd1b5df21\n\n";
+    b"absent\nbefore 45 <14>1 2024-03-01T00:00:00.000000Z h a - - - y\n2 1\n\
+    c4a21e4714a5ffedb92d54bd40784bf01c99de77f555ebe18f055b6f8467e786\n\n";
 
 // the status, what is written, and the line on a fault
 type Outcome = (u8, Vec<u8>, Vec<u8>);
@@ -90,11 +106,11 @@ fn a_device_that_fails_is_told(rt: HostRuntime) -> Result<(), Fail> {
     Ok(())
 }
 
-// the head of both
-fn head_of_both() -> TreeHead {
+// the head of the three
+fn head_of_three() -> TreeHead {
     let mut hash = [0; 32];
-    let _ = hex::decode_to_slice(&ROOT[2..66], &mut hash);
-    TreeHead { size: 2, hash }
+    let _ = hex::decode_to_slice(HASH, &mut hash);
+    TreeHead { size: 3, hash }
 }
 
 // the texts, one behind the other
@@ -123,7 +139,7 @@ fn run_over<Q: Input, R: Input, W: Output, N: Output>(
 ) -> u8 {
     match asked {
         Asked::Prove => prove_archive(alloc, records, input, output, notes),
-        Asked::Confirm => { confirm_proofs(alloc, &head_of_both(), records, input, output, notes) }
+        Asked::Confirm => { confirm_proofs(alloc, &head_of_three(), records, input, output, notes) }
     }
 }
 
@@ -156,10 +172,11 @@ fn run(rt: &HostRuntime, asked: Asked, records: &[u8], input: &[u8]) -> Outcome 
 
 #[test]
 fn each_record_has_its_proof_and_is_confirmed_by_it(rt: HostRuntime) -> Result<(), Fail> {
-    let rows: [(&[&[u8]], &[&[u8]], &[u8]); 7] = [
+    let rows: [(&[&[u8]], &[&[u8]], &[u8]); 8] = [
         (&[], &[], b""),
         (&[FIRST], &[FIRST_PROOF], b"present\n"),
         (&[SECOND], &[SECOND_PROOF], b"present\n"),
+        (&[THIRD], &[THIRD_PROOF], b"present\n"),
         (&[BEFORE], &[BEFORE_PROOF], b"absent\n"),
         (&[BETWEEN], &[BETWEEN_PROOF], b"absent\n"),
         (&[BEHIND], &[BEHIND_PROOF], b"absent\n"),
@@ -172,7 +189,7 @@ fn each_record_has_its_proof_and_is_confirmed_by_it(rt: HostRuntime) -> Result<(
     for (records, proofs, lines) in rows {
         let records = joined(rt.alloc(), records)?;
         let proofs = joined(rt.alloc(), proofs)?;
-        let (status, written, notes) = run(&rt, Asked::Prove, &records, BOTH);
+        let (status, written, notes) = run(&rt, Asked::Prove, &records, THREE);
         assert_eq!(rt; status, DONE);
         assert_eq!(rt; written.as_slice(), proofs.as_slice());
         assert!(rt; notes.is_empty());
@@ -222,7 +239,7 @@ fn what_is_not_shown_is_told(rt: HostRuntime) -> Result<(), Fail> {
             &[FIRST],
             &[FIRST_PROOF, b"x"],
             b"present\n",
-            b"trailing 78\n",
+            b"trailing 143\n",
         ),
         (&[], &[FIRST_PROOF], b"", b"trailing 0\n"),
     ];
@@ -272,15 +289,15 @@ fn devices_that_fail_are_told(rt: HostRuntime) {
     let rows: [(Asked, &[u8], [u64; 3], &[u8], &[u8]); 6] = [
         (
             Asked::Prove,
-            BOTH,
+            THREE,
             [5, 999, 999],
             b"",
             b"records read fault\n",
         ),
-        (Asked::Prove, BOTH, [999, 30, 999], b"", b"read fault\n"),
+        (Asked::Prove, THREE, [999, 30, 999], b"", b"read fault\n"),
         (
             Asked::Prove,
-            BOTH,
+            THREE,
             [999, 999, 9],
             b"present 0",
             b"write fault\n",
@@ -318,8 +335,8 @@ fn devices_that_fail_are_told(rt: HostRuntime) {
 #[test]
 fn no_octet_is_read_behind_that_behind_the_bound(rt: HostRuntime) {
     let text: &[u8] = b"12345";
-    for (limit, is_whole) in [(9, true), (5, true), (4, false), (0, false)] {
-        let mut reader = Fuse::new(FromRead::new(text), limit as u64 + 1, u64::MAX);
+    for (limit, room, is_whole) in [(9, 10, true), (5, 6, true), (4, 5, false), (0, 1, false)] {
+        let mut reader = Fuse::new(FromRead::new(text), room, u64::MAX);
         match read_text(rt.alloc(), &mut reader, limit) {
             Ok(read) => assert!(rt; is_whole && read.as_slice() == text),
             Err(fault) => assert!(rt; !is_whole && fault == TextFault::TooLong),

@@ -1,4 +1,4 @@
-use Rattle.std.proofs.Common.{◌≡◌, ◌++◌, List, ℕ, subst}
+use Rattle.std.proofs.Common.{subst}
 use Rattle.archive_text.specs.Entries.{Entry}
 use Rattle.archive_text.specs.EntryViews.{entry_of}
 use Rattle.archive_proof.specs.Answering.{Says}

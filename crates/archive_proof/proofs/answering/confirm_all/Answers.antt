@@ -1,6 +1,5 @@
 use Rattle.std.proofs.Common.{◌≡◌, ◌+◌, List, ℕ, take, ◌++◌, ◌∷◌, [], sym, ap, ◌∙◌}
 use Rattle.std.proofs.lemmas.List.{take_more}
-use Rattle.archive_text.specs.Entries.{Entry}
 use Rattle.archive_proof.specs.Asking.{asked_entries, asked_entry}
 use Rattle.archive_proof.specs.declared.asked.AskedRecord.{AskedRecord}
 use Rattle.archive_proof.proofs.Answerings.{next_answered}

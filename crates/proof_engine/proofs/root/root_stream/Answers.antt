@@ -1,4 +1,4 @@
-use Rattle.std.proofs.Common.{◌<◌, ◌^◌, ℕ, length, arith}
+use Rattle.std.proofs.Common.{◌<◌, ◌^◌, length, arith}
 use Rattle.archive_tree.specs.Archives.{texts_of}
 use Rattle.archive_tree.proofs.Archives.{count_of_texts}
 use Rattle.archive_streams.proofs.EntrySteps.{begun_whole}

@@ -1,4 +1,4 @@
-use Rattle.std.proofs.Common.{rules, IsTrue, ◌≡◌, false, ◌<◌, ◌∙◌, refl, sym, subst}
+use Rattle.std.proofs.Common.{rules, IsTrue, ◌<◌, ◌∙◌, refl, sym, subst}
 use Rattle.std.proofs.lemmas.Result.{err_from_is_err_and}
 use Rattle.archive_streams.specs.Entries.{IsOpen, still_to_come}
 use Rattle.archive_streams.specs.declared.entries.ArchiveEntries.{ArchiveEntries}
