@@ -32,10 +32,6 @@ _syslogbox_options() {
         read)
             echo "--from --to --undated --help"
             ;;
-        follow)
-            echo "--from --to --undated --only-undated --severity --facility --host --app --proc --msgid --id"
-            echo "--message --host-like --app-like --not-host --not-app --not-message --from-start --until-eof --help"
-            ;;
         send)
             echo "--facility --severity --up-to --framing --host --app --proc --msgid --micros --help"
             ;;
@@ -59,13 +55,11 @@ _syslogbox_value() {
         "convert --zone" | "archive --legacy" | "archive --zone" | "archive --memory" | "select --from" | \
         "select --to" | "select --host" | "select --app" | "select --proc" | "select --msgid" | "select --id" | \
         "select --message" | "select --host-like" | "select --app-like" | "select --not-host" | "select --not-app" | \
-        "select --not-message" | "count --by" | "count --top" | "read --from" | "read --to" | "follow --from" | \
-        "follow --to" | "follow --host" | "follow --app" | "follow --proc" | "follow --msgid" | "follow --id" | \
-        "follow --message" | "follow --host-like" | "follow --app-like" | "follow --not-host" | "follow --not-app" | \
-        "follow --not-message" | "send --host" | "send --app" | "send --proc" | "send --msgid" | "send --micros" | \
-        "collect --legacy" | "collect --zone" | "serve --udp" | "serve --counted" | "serve --lf" | "serve --allow" | \
-        "serve --connections" | "serve --per-peer" | "serve --idle" | "serve --commit" | "serve --checkpoint" | \
-        "serve --legacy" | "serve --zone")
+        "select --not-message" | "count --by" | "count --top" | "read --from" | "read --to" | "send --host" | \
+        "send --app" | "send --proc" | "send --msgid" | "send --micros" | "collect --legacy" | "collect --zone" | \
+        "serve --udp" | "serve --counted" | "serve --lf" | "serve --allow" | "serve --connections" | \
+        "serve --per-peer" | "serve --idle" | "serve --commit" | "serve --checkpoint" | "serve --legacy" | \
+        "serve --zone")
             echo "text"
             ;;
         "show --dialect" | "check --dialect" | "convert --dialect" | "archive --dialect" | "collect --dialect" | \
@@ -78,10 +72,10 @@ _syslogbox_value() {
         "archive --spill")
             echo "folder"
             ;;
-        "select --severity" | "follow --severity" | "send --severity" | "send --up-to")
+        "select --severity" | "send --severity" | "send --up-to")
             echo "words emerg alert crit err warning notice info debug"
             ;;
-        "select --facility" | "follow --facility" | "send --facility")
+        "select --facility" | "send --facility")
             echo "words kern user mail daemon auth syslog lpr news uucp cron authpriv ftp ntp audit alert clock"
             echo "local0 local1 local2 local3 local4 local5 local6 local7"
             ;;
@@ -103,7 +97,7 @@ _syslogbox_place() {
         "merge "* | "migrate "* | "union "* | "common "* | "minus "* | "diff "* | "prove "* | "confirm 3")
             echo "file"
             ;;
-        "read "* | "follow "* | "verify "* | "compact "* | "serve "*)
+        "read "* | "verify "* | "compact "* | "serve "*)
             echo "folder"
             ;;
         "collect 1")
@@ -114,7 +108,7 @@ _syslogbox_place() {
 
 _syslogbox() {
     local command=${COMP_WORDS[1]} word=$2 previous=$3 kind="" action="" words=""
-    local commands="show check convert archive merge migrate union common minus diff select digest count root prove confirm read follow verify compact send collect serve help"
+    local commands="show check convert archive merge migrate union common minus diff select digest count root prove confirm read verify compact send collect serve help"
     if [ "$COMP_CWORD" -eq 1 ]; then
         words="$commands --help --version"
     elif [ "$command" = help ]; then

@@ -123,39 +123,36 @@ send_app =
     with_rule (with_rule (with_word_rules (with_send_defaults (new_app (codes "send")))) (option_rule (codes "micros")))
     (required_rule (codes "TEXT"))
 
--- the conditions on the priority: one severity, and any number of facilities
+-- the options of `select` on the priority: one severity, and any number of facilities
 abbrev pub with_priority_rules : App → App
 with_priority_rules a =
     with_rule (with_rule a (option_rule (codes "severity"))) (list_rule (codes "facility"))
 
--- those on the words of the header
+-- its options on the words of the header
 abbrev pub with_header_rules : App → App
 with_header_rules a =
     with_rule (with_rule (with_rule (with_rule a (list_rule (codes "host"))) (list_rule (codes "app")))
     (list_rule (codes "proc"))) (list_rule (codes "msgid"))
 
--- those on elements and the message
+-- its options on elements and the message
 abbrev pub with_body_rules : App → App
 with_body_rules a = with_rule (with_rule a (list_rule (codes "id"))) (list_rule (codes "message"))
 
--- those that take patterns
+-- its options that take patterns
 abbrev pub with_pattern_rules : App → App
 with_pattern_rules a = with_rule (with_rule a (list_rule (codes "host-like"))) (list_rule (codes "app-like"))
 
--- those on what records may not have
+-- its options for what records may not have
 abbrev pub with_not_rules : App → App
 with_not_rules a =
     with_rule (with_rule (with_rule a (list_rule (codes "not-host"))) (list_rule (codes "not-app")))
     (list_rule (codes "not-message"))
 
--- all conditions on records
-abbrev pub with_condition_rules : App → App
-with_condition_rules a =
-    with_not_rules (with_pattern_rules (with_body_rules (with_header_rules (with_priority_rules (with_time_rules a)))))
-
 -- the command that chooses records of an archive
 abbrev pub select_app : App
-select_app = with_condition_rules (new_app (codes "select"))
+select_app =
+    with_not_rules (with_pattern_rules (with_body_rules (with_header_rules (with_priority_rules
+    (with_time_rules (new_app (codes "select")))))))
 
 -- a command on the store in a folder
 abbrev pub folder_app : Text → App
@@ -164,12 +161,6 @@ folder_app name = with_rule (new_app name) (required_rule (codes "DIR"))
 -- the command that writes the archive of a store
 abbrev pub read_app : App
 read_app = with_rule (with_range_rules (folder_app (codes "read"))) (flag_rule (codes "undated"))
-
--- the command that writes what is committed to a store
-abbrev pub follow_app : App
-follow_app =
-    with_rule (with_rule (with_condition_rules (folder_app (codes "follow"))) (flag_rule (codes "from-start")))
-    (flag_rule (codes "until-eof"))
 
 -- the command that receives records from sockets
 abbrev pub collect_app : App
@@ -251,8 +242,8 @@ with_archives a = with_stream_commands (with_set_commands (with_archive_commands
 -- the commands on a store
 abbrev pub with_store_commands : App → App
 with_store_commands a =
-    with_subcommand (with_subcommand (with_subcommand (with_subcommand a read_app.top) follow_app.top)
-    (folder_app (codes "verify")).top) (folder_app (codes "compact")).top
+    with_subcommand (with_subcommand (with_subcommand a read_app.top) (folder_app (codes "verify")).top)
+    (folder_app (codes "compact")).top
 
 -- the commands that receive records from sockets
 abbrev pub with_receivers : App → App

@@ -68,8 +68,6 @@ pub data Asked : Type 0 where
   Collect : CollectWords → Asked
   -- folders
   Read : Text → InRange → Asked
-  -- from the start of the journals on, and until the input ends
-  Follow : Text → ConditionsAsked → Bool → Bool → Asked
   Verify : Text → Asked
   Compact : Text → Asked
   Serve : ServeAsked → Asked
@@ -108,8 +106,6 @@ asked_by (request.Confirm head records) = Confirm head records.now
 asked_by (request.Send options) = Send (texts_of options)
 asked_by (request.Collect words) = Collect words
 asked_by (request.Read dir range) = Read dir.now range
-asked_by (request.Follow dir conditions from_start until_eof) =
-    Follow dir.now (conditions_asked conditions) from_start until_eof
 asked_by (request.Verify dir) = Verify dir.now
 asked_by (request.Compact dir) = Compact dir.now
 asked_by (request.Serve words) = Serve (serve_asked words)
@@ -286,16 +282,6 @@ abbrev pub read_read : List Row → Option Asked
 read_read rows =
     option_and_then (λ dir. option_map (λ range. Read dir range) (range_in rows)) (first_of (codes "DIR") rows)
 
--- `follow` with these conditions, and the values of its other options
-abbrev pub follow_of : ConditionsAsked → List Row → Option Asked
-follow_of conditions rows =
-    option_map (λ dir. Follow dir conditions (is_given_in (codes "from-start") rows)
-    (is_given_in (codes "until-eof") rows)) (first_of (codes "DIR") rows)
-
--- `follow` with the values of its options
-abbrev pub read_follow : List Row → Option Asked
-read_follow rows = option_and_then (λ conditions. follow_of conditions rows) (conditions_in rows)
-
 -- `verify` with its folder
 abbrev pub read_verify : List Row → Option Asked
 read_verify rows = option_map (λ dir. Verify dir) (first_of (codes "DIR") rows)
@@ -348,8 +334,7 @@ read_of (name, rows) =
     else (if bytes_eq name (codes "union") then read_union rows
     else (if bytes_eq name (codes "select") then read_select rows
     else (if bytes_eq name (codes "count") then read_count rows
-    else (if bytes_eq name (codes "follow") then read_follow rows
-    else (if bytes_eq name (codes "serve") then read_serve rows else read_other name rows)))))
+    else (if bytes_eq name (codes "serve") then read_serve rows else read_other name rows))))
 
 -- the subcommand with the values of its options, where the parse has no fault
 abbrev pub rows_where : Kinds → Option (Text × List Row) → Option (Text × List Row)

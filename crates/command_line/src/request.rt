@@ -105,15 +105,6 @@ pub enum Request<'a> {
         dir: &'a str,
         range: InRange,
     },
-    /// `follow`: the records that are committed to a store and meet these conditions, as they come.
-    Follow {
-        dir: &'a str,
-        conditions: Conditions<'a>,
-        /// Whether it begins with what the journals hold already.
-        from_start: bool,
-        /// Whether it ends when standard input does.
-        until_eof: bool,
-    },
     /// `verify`: what is damaged in a store, one line each.
     Verify {
         dir: &'a str,

@@ -1,20 +1,16 @@
-//! The words of the commands on a store: `read`, `follow`, `verify` and `compact`.
+//! The words of the commands on a store: `read`, `verify` and `compact`.
 
-ghost use Rattle.std.specs.Prelude.{◌≡◌, option_map, IfOk};
+ghost use Rattle.std.specs.Prelude.{◌≡◌, option_map};
 ghost use Rattle.std.specs.Result.{result_ok};
 ghost use Rattle.clap.specs.Words.{found_of, rows_of};
-ghost use Rattle.command_line.specs.Requests.{asked_by, follow_of, read_compact, read_follow, read_read, read_store};
-ghost use Rattle.command_line.specs.Requests.{read_verify};
+ghost use Rattle.command_line.specs.Requests.{asked_by, read_compact, read_read, read_store, read_verify};
 ghost use Rattle.command_line.specs.Ranges.{range_in};
-ghost use Rattle.condition_words.specs.Conditions.{conditions_asked};
 
 use crate::request::Request;
-use archive_sets::{Conditions, InRange};
+use archive_sets::InRange;
 use clap::ArgMatches;
-use condition_words::read_conditions;
-use option_values::options::{DIR, FROM, FROM_START, UNDATED, UNTIL, UNTIL_EOF};
+use option_values::options::{DIR, FROM, UNDATED, UNTIL};
 use option_values::{Refusal, is_given, needed, optional_instant};
-use std::alloc::{AllocError, Global};
 
 // The range of time by the options.
 fn range<'a>(matches: &ArgMatches<'a>) -> Result<InRange, Refusal<'a>>
@@ -40,37 +36,6 @@ fn read_read_words<'a>(matches: &ArgMatches<'a>) -> Result<Request<'a>, Refusal<
     match range(matches) {
         Ok(range) => Ok(Request::Read { dir, range }),
         Err(refusal) => Err(refusal),
-    }
-}
-
-// The request of `follow` with these conditions.
-fn with_conditions<'a>(
-    conditions: Conditions<'a>,
-    matches: &ArgMatches<'a>,
-) -> Result<Request<'a>, Refusal<'a>>
-    ensures { option_map asked_by (result_ok result)
-        ≡ follow_of (conditions_asked conditions.entry) (rows_of (found_of matches.now)) }
-{
-    let dir = needed(matches, &DIR)?;
-    Ok(Request::Follow {
-        dir,
-        conditions,
-        from_start: is_given(matches, FROM_START.name),
-        until_eof: is_given(matches, UNTIL_EOF.name),
-    })
-}
-
-/// The request of `follow`. It fails only when out of memory.
-pub fn read_follow_words<'a>(
-    alloc: Global,
-    matches: &ArgMatches<'a>,
-) -> Result<Result<Request<'a>, Refusal<'a>>, AllocError>
-    ensures { IfOk result (λ r.
-        option_map asked_by (result_ok r) ≡ read_follow (rows_of (found_of matches.now))) }
-{
-    match read_conditions(alloc, matches)? {
-        Ok(conditions) => Ok(with_conditions(conditions, matches)),
-        Err(refusal) => Ok(Err(refusal)),
     }
 }
 

@@ -22,7 +22,7 @@ use crate::request::Request;
 use crate::select_words::read_select_words;
 use crate::send_words::read_send_words;
 use crate::serving::read_serve_request;
-use crate::store_words::{read_follow_words, read_store_words};
+use crate::store_words::read_store_words;
 use clap::ArgMatches;
 use clap::error::ErrorKind;
 use option_values::{Refusal, refusal_text};
@@ -122,7 +122,6 @@ fn asked_for<'a>(
         "union" => read_union_words(alloc, inner),
         "select" => read_select_words(alloc, inner),
         "count" => read_count_words(alloc, inner),
-        "follow" => read_follow_words(alloc, inner),
         "serve" => read_serve_request(alloc, inner),
         _ => Ok(read_other_words(name, inner)),
     }

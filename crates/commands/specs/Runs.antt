@@ -20,7 +20,7 @@ use Rattle.archive_sets.specs.Together.{MeetsAll}
 use Rattle.archive_sets.specs.declared.conditions.Conditions.{Conditions}
 use Rattle.condition_words.specs.Conditions.{ConditionsAsked, conditions_asked}
 use Rattle.command_line.specs.Requests.{Archive, Asked, Check, Collect, Common, Compact, Confirm, Convert, Count, Diff}
-use Rattle.command_line.specs.Requests.{Digest, Follow, Merge, Migrate, Minus, Prove, Read, Root, Select, Send, Serve, Show}
+use Rattle.command_line.specs.Requests.{Digest, Merge, Migrate, Minus, Prove, Read, Root, Select, Send, Serve, Show}
 use Rattle.command_line.specs.Requests.{SpillArchive, Union, Verify}
 use Rattle.command_line.specs.declared.words.WordsFault.{WordsFault}
 use Rattle.command_line.specs.declared.words.WordsFault.TheVariants.{Usage, Memory as OutOfMemory}
@@ -120,8 +120,6 @@ RanAs (SpillArchive way framing dir memory) stored old new status =
     RanWithout (codes "spill fault\n") old.output new.output old.diagnostics new.diagnostics status
 RanAs (Read dir range) stored old new status =
     RanWithout (codes "store fault\n") old.output new.output old.diagnostics new.diagnostics status
-RanAs (Follow dir conditions from_start until_eof) stored old new status =
-    RanWithout (codes "store fault\n") old.output new.output old.diagnostics new.diagnostics status
 RanAs (Verify dir) stored old new status =
     RanWithout (codes "store fault\n") old.output new.output old.diagnostics new.diagnostics status
 RanAs (Compact dir) stored old new status =
@@ -152,7 +150,6 @@ ReadsInput (Migrate file) = ⊥
 ReadsInput (Send texts) = ⊥
 ReadsInput (SpillArchive way framing dir memory) = ⊥
 ReadsInput (Read dir range) = ⊥
-ReadsInput (Follow dir conditions from_start until_eof) = ⊥
 ReadsInput (Verify dir) = ⊥
 ReadsInput (Compact dir) = ⊥
 ReadsInput (Collect words) = ⊥

@@ -212,7 +212,7 @@ pub const RECORDS: OptionRow = OptionRow {
 
 // ---- Conditions on records.
 
-/// `--from` of select, read and follow.
+/// `--from` of select and read.
 pub const FROM: OptionRow = OptionRow {
     name: "from",
     form: Form::Single,
@@ -221,7 +221,7 @@ pub const FROM: OptionRow = OptionRow {
     help: "Records at or after this time: 2026-11-25T10:00:00Z; 2026-11-25T10:00 or 2026-11-25 (UTC); or -30m, -1h, -2d",
 };
 
-/// `--to` of select, read and follow.
+/// `--to` of select and read.
 pub const UNTIL: OptionRow = OptionRow {
     name: "to",
     form: Form::Single,
@@ -230,7 +230,7 @@ pub const UNTIL: OptionRow = OptionRow {
     help: "Records before this time",
 };
 
-/// `--undated` of select, read and follow.
+/// `--undated` of select and read.
 pub const UNDATED: OptionRow = OptionRow {
     name: "undated",
     form: Form::Flag,
@@ -239,7 +239,7 @@ pub const UNDATED: OptionRow = OptionRow {
     help: "Also records without a time, which --from and --to leave out",
 };
 
-/// `--only-undated` of select and follow.
+/// `--only-undated` of `select`.
 pub const ONLY_UNDATED: OptionRow = OptionRow {
     name: "only-undated",
     form: Form::Flag,
@@ -248,7 +248,7 @@ pub const ONLY_UNDATED: OptionRow = OptionRow {
     help: "Only records without a time",
 };
 
-/// `--severity` of select and follow.
+/// `--severity` of `select`.
 pub const SEVERITY: OptionRow = OptionRow {
     name: "severity",
     form: Form::Single,
@@ -257,7 +257,7 @@ pub const SEVERITY: OptionRow = OptionRow {
     help: "Records of this severity or a more severe one: emerg, alert, crit, err, warning, notice, info or debug",
 };
 
-/// `--facility` of select and follow.
+/// `--facility` of `select`.
 pub const FACILITY: OptionRow = OptionRow {
     name: "facility",
     form: Form::List,
@@ -266,7 +266,7 @@ pub const FACILITY: OptionRow = OptionRow {
     help: "Records of this facility, or of one of several: kern, user, mail, daemon, ... or local0 to local7",
 };
 
-/// `--host` of select and follow.
+/// `--host` of `select`.
 pub const HOST: OptionRow = OptionRow {
     name: "host",
     form: Form::List,
@@ -275,7 +275,7 @@ pub const HOST: OptionRow = OptionRow {
     help: "Records with this HOSTNAME, or one of several; - for none",
 };
 
-/// `--app` of select and follow.
+/// `--app` of `select`.
 pub const APP: OptionRow = OptionRow {
     name: "app",
     form: Form::List,
@@ -284,7 +284,7 @@ pub const APP: OptionRow = OptionRow {
     help: "Records with this APP-NAME, or one of several; - for none",
 };
 
-/// `--proc` of select and follow.
+/// `--proc` of `select`.
 pub const PROC: OptionRow = OptionRow {
     name: "proc",
     form: Form::List,
@@ -293,7 +293,7 @@ pub const PROC: OptionRow = OptionRow {
     help: "Records with this PROCID, or one of several; - for none",
 };
 
-/// `--msgid` of select and follow.
+/// `--msgid` of `select`.
 pub const MSGID: OptionRow = OptionRow {
     name: "msgid",
     form: Form::List,
@@ -302,7 +302,7 @@ pub const MSGID: OptionRow = OptionRow {
     help: "Records with this MSGID, or one of several; - for none",
 };
 
-/// `--id` of select and follow.
+/// `--id` of `select`.
 pub const ID: OptionRow = OptionRow {
     name: "id",
     form: Form::List,
@@ -311,7 +311,7 @@ pub const ID: OptionRow = OptionRow {
     help: "Records that have an element with this SD-ID, or one of several",
 };
 
-/// `--message` of select and follow.
+/// `--message` of `select`.
 pub const RECORD_MESSAGE: OptionRow = OptionRow {
     name: "message",
     form: Form::List,
@@ -320,7 +320,7 @@ pub const RECORD_MESSAGE: OptionRow = OptionRow {
     help: "Records whose message contains this text, or one of several",
 };
 
-/// `--host-like` of select and follow.
+/// `--host-like` of `select`.
 pub const HOST_LIKE: OptionRow = OptionRow {
     name: "host-like",
     form: Form::List,
@@ -329,7 +329,7 @@ pub const HOST_LIKE: OptionRow = OptionRow {
     help: "Records whose HOSTNAME is like this pattern, or one of several; * is any text, ? any character",
 };
 
-/// `--app-like` of select and follow.
+/// `--app-like` of `select`.
 pub const APP_LIKE: OptionRow = OptionRow {
     name: "app-like",
     form: Form::List,
@@ -338,7 +338,7 @@ pub const APP_LIKE: OptionRow = OptionRow {
     help: "Records whose APP-NAME is like this pattern, or one of several; * is any text, ? any character",
 };
 
-/// `--not-host` of select and follow.
+/// `--not-host` of `select`.
 pub const NOT_HOST: OptionRow = OptionRow {
     name: "not-host",
     form: Form::List,
@@ -347,7 +347,7 @@ pub const NOT_HOST: OptionRow = OptionRow {
     help: "Records without this HOSTNAME, or any of several; - for none",
 };
 
-/// `--not-app` of select and follow.
+/// `--not-app` of `select`.
 pub const NOT_APP: OptionRow = OptionRow {
     name: "not-app",
     form: Form::List,
@@ -356,7 +356,7 @@ pub const NOT_APP: OptionRow = OptionRow {
     help: "Records without this APP-NAME, or any of several; - for none",
 };
 
-/// `--not-message` of select and follow.
+/// `--not-message` of `select`.
 pub const NOT_MESSAGE: OptionRow = OptionRow {
     name: "not-message",
     form: Form::List,
@@ -488,22 +488,13 @@ pub const COUNT: OptionRow = OptionRow {
 
 // ---- Stores.
 
-/// `DIR` of read, follow, verify and compact.
+/// `DIR` of read, verify and compact.
 pub const DIR: OptionRow = OptionRow {
     name: "DIR",
     form: Form::Positional,
     value: "dir",
     kind: Kind::Folder,
     help: "Folder of a store",
-};
-
-/// `--from-start` of `follow`.
-pub const FROM_START: OptionRow = OptionRow {
-    name: "from-start",
-    form: Form::Flag,
-    value: "",
-    kind: Kind::Text,
-    help: "Begin with what the journals of the store hold already",
 };
 
 /// `DIR` of `serve`.
@@ -614,7 +605,7 @@ pub const CHECKPOINT: OptionRow = OptionRow {
     help: "MiB that a journal may reach before a checkpoint: 1 to 2048",
 };
 
-/// `--until-eof` of follow and serve.
+/// `--until-eof` of `serve`.
 pub const UNTIL_EOF: OptionRow = OptionRow {
     name: "until-eof",
     form: Form::Flag,
@@ -762,34 +753,6 @@ pub const READ_COMMAND: CommandRow = CommandRow {
     options: &[DIR, FROM, UNTIL, UNDATED],
 };
 
-/// `follow`.
-pub const FOLLOW_COMMAND: CommandRow = CommandRow {
-    name: "follow",
-    about: "Write the records that meet all conditions as they are committed to a store",
-    options: &[
-        DIR,
-        FROM,
-        UNTIL,
-        UNDATED,
-        ONLY_UNDATED,
-        SEVERITY,
-        FACILITY,
-        HOST,
-        APP,
-        PROC,
-        MSGID,
-        ID,
-        RECORD_MESSAGE,
-        HOST_LIKE,
-        APP_LIKE,
-        NOT_HOST,
-        NOT_APP,
-        NOT_MESSAGE,
-        FROM_START,
-        UNTIL_EOF,
-    ],
-};
-
 /// `verify`.
 pub const VERIFY_COMMAND: CommandRow = CommandRow {
     name: "verify",
@@ -855,7 +818,7 @@ pub const SERVE_COMMAND: CommandRow = CommandRow {
 };
 
 /// The commands, in the order of the help.
-pub const COMMANDS: [CommandRow; 23] = [
+pub const COMMANDS: [CommandRow; 22] = [
     SHOW_COMMAND,
     CHECK_COMMAND,
     CONVERT_COMMAND,
@@ -873,7 +836,6 @@ pub const COMMANDS: [CommandRow; 23] = [
     PROVE_COMMAND,
     CONFIRM_COMMAND,
     READ_COMMAND,
-    FOLLOW_COMMAND,
     VERIFY_COMMAND,
     COMPACT_COMMAND,
     SEND_COMMAND,

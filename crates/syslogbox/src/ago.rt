@@ -6,7 +6,7 @@ use syslog_grammar::canonical_timestamp;
 use syslog_value::Instant;
 
 // The commands that take times.
-const COMMANDS: [&str; 3] = ["select", "read", "follow"];
+const COMMANDS: [&str; 2] = ["select", "read"];
 
 // The options that take them.
 const OPTIONS: [&str; 2] = ["--from", "--to"];

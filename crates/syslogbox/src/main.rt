@@ -9,7 +9,6 @@ mod disk_files;
 mod entries;
 mod errors;
 mod flushing;
-mod follow;
 mod notes;
 mod opening;
 mod outputs;
@@ -116,26 +115,6 @@ fn main(rt: HostRuntime) -> ExitCode {
         Ok(Request::Read { dir, range }) => {
             let mut diagnostics = ToWrite::new(QuietErrors::new(&rt));
             stores::read(&rt, rt.alloc(), dir, range, &mut output, &mut diagnostics)
-        }
-        Ok(
-            Request::Follow {
-                dir,
-                conditions,
-                from_start,
-                until_eof,
-            },
-        ) => {
-            let mut diagnostics = ToWrite::new(QuietErrors::new(&rt));
-            follow::follow(
-                &rt,
-                rt.alloc(),
-                dir,
-                &conditions,
-                from_start,
-                until_eof,
-                &mut output,
-                &mut diagnostics,
-            )
         }
         Ok(Request::Verify { dir }) => {
             stores::verify(&rt, rt.alloc(), dir, &mut output, &mut diagnostics)

@@ -58,49 +58,6 @@ fn read_takes_a_folder_and_a_range(rt: HostRuntime) -> Result<(), Fail> {
     )
 }
 
-// what `follow` takes: whether it has conditions, begins with the journals, and ends with its input
-fn follows<'a>(rt: &HostRuntime, words: &'a [&'a str]) -> Option<(&'a str, bool, bool, bool)> {
-    match asked(rt, words) {
-        Ok(
-            Request::Follow {
-                dir,
-                conditions,
-                from_start,
-                until_eof,
-            },
-        ) => Some((dir, conditions.any.is_empty(), from_start, until_eof)),
-        _ => None,
-    }
-}
-
-#[test]
-fn a_store_is_followed(rt: HostRuntime) -> Result<(), Fail> {
-    assert_eq!(rt;
-        follows(&rt, &["follow", "d"]),
-        Some(("d", true, false, false))
-    );
-    let words = [
-        "follow",
-        "--from-start",
-        "d",
-        "--host=h",
-        "--until-eof",
-        "--not-app",
-        "a",
-    ];
-    assert_eq!(rt; follows(&rt, &words), Some(("d", false, true, true)));
-    refuses_all(
-        &rt,
-        &[
-            &["follow"],
-            &["follow", "d", "e"],
-            &["follow", "d", "--host="],
-            &["follow", "d", "--until-eof=true"],
-            &["follow", "d", "--only-undated", "--to=2026-11-25"],
-        ],
-    )
-}
-
 #[test]
 fn a_store_is_compacted(rt: HostRuntime) -> Result<(), Fail> {
     let asked = asked(&rt, &["compact", "d"]);

@@ -60,9 +60,6 @@ returns-in-SpillArchive-clause-ran g c = rw c.in-SpillArchive.is (inr (refl, c.r
 pub returns-in-Read-clause-ran : goal.returns-in-Read-clause-ran
 returns-in-Read-clause-ran g c = rw c.in-Read.is (inr (refl, c.report-in-Read.ensures.reports))
 
-pub returns-in-Follow-clause-ran : goal.returns-in-Follow-clause-ran
-returns-in-Follow-clause-ran g c = rw c.in-Follow.is (inr (refl, c.report-in-Follow.ensures.reports))
-
 pub returns-in-Verify-clause-ran : goal.returns-in-Verify-clause-ran
 returns-in-Verify-clause-ran g c = rw c.in-Verify.is (inr (refl, c.report-in-Verify.ensures.reports))
 
