@@ -22,4 +22,4 @@ def auditing(program, results):
                   len(steps) > 8 and [(folder / name).read_bytes() for name in ("whole", "whole.there")] == [whole] * 2)
     results.check("AUDITING.md names commands of the program",
                   set(re.findall(r"syslogbox (\w+)", "\n".join(command for command, _ in steps)))
-                  == {"archive", "digest", "select", "diff", "minus", "common", "union"})
+                  == {"archive", "digest", "select", "diff", "minus", "common", "union", "root", "convert", "prove", "confirm"})
