@@ -4,15 +4,15 @@ use Rattle.std.specs.Prelude.{◌⊎◌, ◌≢◌, ℤ, ◌≤ℤ◌}
 use Rattle.std.specs.List.{AllByRecursion}
 use Rattle.std.proofs.lemmas.Int.{ints}
 use Rattle.archive_text.specs.Entries.{Entry, Has}
-use Rattle.archive_text.proofs.Orders.{octets_asymmetric}
 use Rattle.archive_sets.specs.Selections.{IsSelection}
 use Rattle.archive_sets.proofs.SelectionLaws.{one_selection}
 use Rattle.archive_counts.specs.Lines.{AreLinesOf, AreRanked, IsAhead, IsLineOf, IsToldOf, Line}
 use Rattle.archive_counts.specs.Tallies.{AreUndated, HasInstant, IsEarliest, IsLatest}
-use Rattle.archive_counts.specs.Words.{HasWords, spaced}
+use Rattle.archive_counts.specs.Words.{HasWords}
 use Rattle.archive_counts.specs.declared.key.CountKey.{CountKey}
 use Rattle.archive_counts.specs.declared.order.LineOrder.{LineOrder}
 use Rattle.archive_counts.specs.declared.order.LineOrder.TheVariants.{MostFirst, ByWords}
+use Rattle.archive_counts.proofs.WordOrders.{words_asymmetric}
 use Rattle.archive_counts.proofs.WordTexts.{same_words}
 
 -- ---- one line
@@ -116,11 +116,11 @@ in_by_keys (key ∷ keys) all order xs ls ms l is h k among =
 -- ---- so in their order they are one list
 
 not_both : (order : LineOrder) (l m : Line) → IsAhead order l m → ¬ (IsAhead order m l)
-not_both ByWords l m h k = octets_asymmetric (spaced l.words) (spaced m.words) h k
+not_both ByWords l m h k = words_asymmetric l.words m.words h k
 not_both MostFirst l m (inl h) (inl k) = omega (arith, h, k)
 not_both MostFirst l m (inl h) (inr k) = omega (arith, h, k.0)
 not_both MostFirst l m (inr h) (inl k) = omega (arith, h.0, k)
-not_both MostFirst l m (inr h) (inr k) = octets_asymmetric (spaced l.words) (spaced m.words) h.1 k.1
+not_both MostFirst l m (inr h) (inr k) = words_asymmetric l.words m.words h.1 k.1
 
 same_first : (order : LineOrder) (l m : Line) (ls ms : List Line) → AreRanked order (l ∷ ls) → AreRanked order (m ∷ ms)
     → IsIn (m ∷ ms) l → IsIn (l ∷ ls) m → l ≡ m

@@ -1,6 +1,6 @@
 -- From the rows of a table to lines.
 use Rattle.std.proofs.Common.{◌≡◌, ℕ, zero, suc, ◌<◌, List, [], ◌∷◌, Option, None, Some, length, take, refl, sym, ap, subst}
-use Rattle.std.proofs.Common.{inl, inr, arith}
+use Rattle.std.proofs.Common.{inl, inr, arith, ◌∙◌}
 use Rattle.std.specs.Prelude.{◌⊎◌, ◌≢◌, ◌↔◌, Contains, IsSome}
 use Rattle.std.specs.List.{AllByRecursion}
 use Rattle.std.specs.Ordering.{nat_cmp, ordering_then}
@@ -17,7 +17,7 @@ use Rattle.syslog_reading.proofs.Valid.{well_formed_valid}
 use Rattle.archive_text.specs.Entries.{Entry, Has}
 use Rattle.archive_text.proofs.Members.{all_weaker}
 use Rattle.archive_sets.specs.Selections.{IsSelection}
-use Rattle.archive_counts.specs.Lines.{AreLinesOf, IsAhead, IsLineOf, IsToldOf, Line, first_of}
+use Rattle.archive_counts.specs.Lines.{AreLinesOf, AreWordsBelow, IsAhead, IsLineOf, IsToldOf, Line, first_of}
 use Rattle.archive_counts.specs.Lines.{AreRanked as AreRankedLines}
 use Rattle.archive_counts.specs.Rows.{AreRanked, AreRowsOf, compare_rows, compare_words}
 use Rattle.archive_counts.specs.Tables.{IsNeeded, IsRowOf, IsTableOf, IsTallyAt, tally_at}
@@ -30,6 +30,7 @@ use Rattle.archive_counts.specs.declared.order.LineOrder.TheVariants.{MostFirst,
 use Rattle.archive_counts.specs.declared.rows.Row.{Row}
 use Rattle.archive_counts.specs.declared.table.Table.{Table}
 use Rattle.archive_counts.specs.declared.tally.Tally.{Tally}
+use Rattle.archive_counts.proofs.WordOrders.{words_below}
 use Rattle.archive_counts.proofs.WordTexts.{are_spaced, has_words}
 
 -- ---- the line of a row
@@ -184,11 +185,12 @@ below_octets a b Equal e h = absurd cc
 below_octets a b Greater e h = absurd cc
 
 words_ahead : (keys : List CountKey) (r s : Row) (l m : Line) → IsRowFor keys r l → IsRowFor keys s m
-    → compare_words r s ≡ Less → OctetsBelow (spaced l.words) (spaced m.words)
+    → compare_words r s ≡ Less → AreWordsBelow l.words m.words
 words_ahead keys r s l m h k less =
-    subst (OctetsBelow (spaced l.words)) k.words.is
+    words_below l.words m.words h.words.free (h.words.count ∙ sym k.words.count)
+    (subst (OctetsBelow (spaced l.words)) k.words.is
     (subst (λ (t : List ℕ). OctetsBelow t s.words.items) h.words.is
-    (below_octets r.words.items s.words.items (compare_words r s) refl less))
+    (below_octets r.words.items s.words.items (compare_words r s) refl less)))
 
 is_ahead : (keys : List CountKey) (order : LineOrder) (r s : Row) (l m : Line) → IsRowFor keys r l → IsRowFor keys s m
     → compare_rows order r s ≡ Less → IsAhead order l m

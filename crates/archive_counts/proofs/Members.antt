@@ -21,7 +21,7 @@ use Rattle.archive_counts.proofs.Objects.{member_grows}
 free_at : (word : List ℕ) (k : ℕ) → AllByRecursion IsFree word → get_or word k 0 ≢ 32
 free_at [] zero h e = absurd cc
 free_at [] (suc k) h e = absurd cc
-free_at (x ∷ word) zero h e = h.0 e
+free_at (x ∷ word) zero h e = omega (arith, h.0, e)
 free_at (x ∷ word) (suc k) h e = free_at word k h.1 e
 
 place_of : (front rest : List ℕ) → get_or (front ++ 32 ∷ rest) (length front) 0 ≡ 32
@@ -35,7 +35,7 @@ first_place : (front rest : List ℕ) (end : ℕ) → AllByRecursion IsFree fron
     → ((k : ℕ) → k < end → ¬ (get_or (front ++ 32 ∷ rest) k 0 ≡ 32)) → end ≡ length front
 first_place [] rest zero all at none = refl
 first_place [] rest (suc end) all at none = absurd (none zero (omega arith) refl)
-first_place (f ∷ front) rest zero all at none = absurd (all.0 at)
+first_place (f ∷ front) rest zero all at none = absurd (omega (arith, all.0, at))
 first_place (f ∷ front) rest (suc end) all at none =
     ap (λ (n : ℕ). suc n) (first_place front rest end all.1 at (λ k less is. none (suc k) (omega arith) is))
 

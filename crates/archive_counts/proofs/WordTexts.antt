@@ -1,7 +1,7 @@
 -- The words of a record under keys: there is one text of them, and no word has a space.
 use Rattle.std.proofs.Common.{◌≡◌, ℕ, zero, suc, ◌+◌, ◌%◌, ◌/◌, ◌<◌, ◌≤◌, List, [], ◌∷◌, ◌++◌, Option, None, Some, length, take, drop, get_or}
-use Rattle.std.proofs.Common.{true, false, refl, sym, ap, subst, ◌∙◌, append-nil, append_assoc, arith}
-use Rattle.std.specs.Prelude.{◌↔◌, ◌==◌, ◌&&◌, not, Bool, ℤ, codes, IfSome}
+use Rattle.std.proofs.Common.{true, false, refl, sym, ap, subst, ◌∙◌, append-nil, append_assoc, arith, nat_lt}
+use Rattle.std.specs.Prelude.{◌↔◌, ◌≢◌, ◌&&◌, Bool, ℤ, codes, IfSome}
 use Rattle.std.proofs.lemmas.Bool.Decides.{nat_tests}
 use Rattle.std.proofs.lemmas.Grind.{common_steps}
 use Rattle.std.specs.List.{AllByRecursion}
@@ -101,13 +101,13 @@ same_words keys ws vs e h k =
 
 abbrev has_none : List ℕ → Bool
 has_none [] = true
-has_none (x ∷ xs) = not (x == 32) && has_none xs
+has_none (x ∷ xs) = nat_lt 32 x && has_none xs
 
 free_from_test : (xs : List ℕ) → has_none xs ≡ true → AllByRecursion IsFree xs
 free_from_test [] h = tt
-free_from_test (x ∷ xs) h = (first x (has_none xs) h, free_from_test xs (others (not (x == 32)) (has_none xs) h))
+free_from_test (x ∷ xs) h = (first x (has_none xs) h, free_from_test xs (others (nat_lt 32 x) (has_none xs) h))
   where
-    first : (y : ℕ) (b : Bool) → (not (y == 32) && b) ≡ true → IsFree y
+    first : (y : ℕ) (b : Bool) → (nat_lt 32 y && b) ≡ true → IsFree y
     first y b e = grind (arith, nat_tests, common_steps, e)
 
     others : (a b : Bool) → (a && b) ≡ true → b ≡ true
@@ -151,7 +151,7 @@ severity_test severity.Informational = refl
 severity_test severity.Debug = refl
 
 digit : (n : ℕ) → IsFree (48 + n % 10)
-digit n e = omega (arith, e)
+digit n = omega arith
 
 padded_free : (w n : ℕ) → AllByRecursion IsFree (padded w n)
 padded_free zero n = tt
@@ -173,11 +173,11 @@ civil_free c =
     let second : List ℕ = minute ++ 58 ∷ padded 2 c.second in
     let micros : List ℕ = second ++ 46 ∷ padded 6 c.micros in
     AllByRecursion-append IsFree micros (90 ∷ [])
-    (number second 46 6 c.micros (λ e. omega (arith, e)) (number minute 58 2 c.second (λ e. omega (arith, e))
-    (number hour 58 2 c.minute (λ e. omega (arith, e)) (number day 84 2 c.hour (λ e. omega (arith, e))
-    (number month 45 2 c.day (λ e. omega (arith, e)) (number year 45 2 c.month (λ e. omega (arith, e))
+    (number second 46 6 c.micros (omega arith) (number minute 58 2 c.second (omega arith)
+    (number hour 58 2 c.minute (omega arith) (number day 84 2 c.hour (omega arith)
+    (number month 45 2 c.day (omega arith) (number year 45 2 c.month (omega arith)
     (padded_free 4 c.year)))))))
-    (λ e. omega (arith, e), tt)
+    (omega arith, tt)
 
 taken_free : (n : ℕ) (xs : List ℕ) → AllByRecursion IsFree xs → AllByRecursion IsFree (take n xs)
 taken_free n xs h =
@@ -190,8 +190,8 @@ period_free n (Some i) w (time, (c, exists, names, form), is) =
     (taken_free n time (subst (AllByRecursion IsFree) (sym form) (civil_free c)))
 
 field_free : (n : ℕ) (f : Option (List ℕ)) → IfSome f (IsWord n) → AllByRecursion IsFree (word_form f)
-field_free n None h = (λ e. omega (arith, e), tt)
-field_free n (Some w) h = AllByRecursion-weaker IsPrintable IsFree (λ x p e. omega (arith, p.0, e)) w h.printable
+field_free n None h = (omega arith, tt)
+field_free n (Some w) h = AllByRecursion-weaker IsPrintable IsFree (λ x p. omega (arith, p.0)) w h.printable
 
 word_free : (k : CountKey) (r : Parts ℤ) (w : List ℕ) → IsRecord r → IsWordOf k r w → AllByRecursion IsFree w
 word_free key.Host r w v h = subst (AllByRecursion IsFree) (sym h) (field_free 255 r.hostname v.hostname)
@@ -221,6 +221,9 @@ words_free (k ∷ keys) r (w ∷ ws) v h = (word_free k r w v h.0, words_free ke
 
 -- ---- so a text has one list of words
 
+no_space : (w : List ℕ) → AllByRecursion IsFree w → AllByRecursion (λ y. y ≢ 32) w
+no_space w h = AllByRecursion-weaker IsFree (λ y. y ≢ 32) (λ y above e. omega (arith, above, e)) w h
+
 -- behind a word comes a space, or nothing
 behind : (ws vs : List (List ℕ)) (keys : List CountKey) (r q : Parts ℤ) (a b : List ℕ) → AreWordsOf keys r ws
     → AreWordsOf keys q vs → AllByRecursion IsFree a → AllByRecursion IsFree b → a ++ spaced ws ≡ b ++ spaced vs → a ≡ b
@@ -229,7 +232,7 @@ behind [] (y ∷ vs) [] r q a b h k p s e = absurd cc
 behind [] (y ∷ vs) (x ∷ keys) r q a b h k p s e = absurd h
 behind (x ∷ ws) [] [] r q a b h k p s e = absurd cc
 behind (x ∷ ws) [] (y ∷ keys) r q a b h k p s e = absurd k
-behind (x ∷ ws) (y ∷ vs) keys r q a b h k p s e = same_until 32 a b (x ++ spaced ws) (y ++ spaced vs) p s e
+behind (x ∷ ws) (y ∷ vs) keys r q a b h k p s e = same_until 32 a b (x ++ spaced ws) (y ++ spaced vs) (no_space a p) (no_space b s) e
 
 pub one_list : (keys : List CountKey) (r q : Parts ℤ) (ws vs : List (List ℕ)) → IsRecord r → IsRecord q
     → AreWordsOf keys r ws → AreWordsOf keys q vs → spaced ws ≡ spaced vs → ws ≡ vs

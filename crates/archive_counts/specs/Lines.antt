@@ -6,7 +6,7 @@ use Rattle.archive_text.specs.Entries.{Entry, Has}
 use Rattle.archive_text.specs.Text.{text_of}
 use Rattle.archive_sets.specs.Selections.{IsSelection}
 use Rattle.archive_counts.specs.Tallies.{IsEarliest, IsLatest}
-use Rattle.archive_counts.specs.Words.{HasWords, spaced}
+use Rattle.archive_counts.specs.Words.{HasWords}
 use Rattle.archive_counts.specs.declared.key.CountKey.{CountKey}
 use Rattle.archive_counts.specs.declared.order.LineOrder.{LineOrder}
 use Rattle.archive_counts.specs.declared.order.LineOrder.TheVariants.{MostFirst, ByWords}
@@ -37,11 +37,16 @@ abbrev pub IsToldOf : List Line → Entry → Type 0
 IsToldOf [] e = ⊥
 IsToldOf (l ∷ ls) e = Has l.entries e ⊎ IsToldOf ls e
 
--- more records first, and of as many by the octets of the words, one word after the other; or by these alone
+-- the octets of the first words that differ decide
+abbrev pub AreWordsBelow : List (List ℕ) → List (List ℕ) → Type 0
+AreWordsBelow ws [] = ⊥
+AreWordsBelow [] (v ∷ vs) = Unit {0}
+AreWordsBelow (w ∷ ws) (v ∷ vs) = OctetsBelow w v ⊎ ((w ≡ v) × AreWordsBelow ws vs)
+
+-- more records first, and of as many by the words; or by these alone
 abbrev pub IsAhead : LineOrder → Line → Line → Type 0
-IsAhead MostFirst l m =
-    (count_of m < count_of l) ⊎ ((count_of l ≡ count_of m) × OctetsBelow (spaced l.words) (spaced m.words))
-IsAhead ByWords l m = OctetsBelow (spaced l.words) (spaced m.words)
+IsAhead MostFirst l m = (count_of m < count_of l) ⊎ ((count_of l ≡ count_of m) × AreWordsBelow l.words m.words)
+IsAhead ByWords l m = AreWordsBelow l.words m.words
 
 -- each line comes before all that follow it
 abbrev pub AreRanked : LineOrder → List Line → Type 0

@@ -1,5 +1,5 @@
 -- The words of a record under the keys that it is counted by.
-use Rattle.std.specs.Prelude.{◌≡◌, ◌≢◌, ℕ, ℤ, ◌<◌, ◌/◌, ◌%◌, List, [], ◌∷◌, Option, None, Some, codes, length, take}
+use Rattle.std.specs.Prelude.{◌≡◌, ℕ, ℤ, ◌<◌, ◌/◌, ◌%◌, List, [], ◌∷◌, Option, None, Some, codes, length, take}
 use Rattle.std.specs.List.{All, AllByRecursion, flat_map}
 use Rattle.syslog_value.specs.Facilities.{facility_code, facility_name}
 use Rattle.syslog_value.specs.Parts.{Parts}
@@ -67,9 +67,9 @@ HasWords keys words e = IsOfRecord (λ r. AreWordsOf keys r words) e.octets
 abbrev pub spaced : List (List ℕ) → List ℕ
 spaced words = flat_map (λ word. 32 ∷ word) words
 
--- no space, which is below every octet of a word
+-- above the space, as every octet of a word is
 abbrev pub IsFree : ℕ → Type 0
-IsFree x = x ≢ 32
+IsFree x = 32 < x
 
 -- the text has these words, one for each key
 pub record AreSpaced (keys : List CountKey) (words : List (List ℕ)) (text : List ℕ) : Type 0 where

@@ -10,7 +10,7 @@ ghost use Rattle.archive_counts.specs.Tables.{IsTableOf};
 
 use crate::bars::put_bars;
 use crate::counting::Counting;
-use crate::json::put_objects;
+use crate::json_lines::put_objects;
 use crate::line::put_rows;
 use crate::options::{CountForm, CountOptions};
 use crate::order::order_of;

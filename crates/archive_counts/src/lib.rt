@@ -7,7 +7,7 @@
 mod bars;
 mod count;
 mod counting;
-mod json;
+mod json_lines;
 mod key;
 mod laws;
 mod line;

@@ -3,7 +3,7 @@ use Rattle.octet_language.specs.Language.{Each}
 use Rattle.syslog_fields.proofs.Appends.{puts_failed}
 use Rattle.archive_counts.specs.Json.{RowJson}
 use Rattle.archive_counts.proofs.Texts.{adds_more}
-use Rattle.archive_counts.proofs.json.put_objects.Goals as goal
+use Rattle.archive_counts.proofs.json_lines.put_objects.Goals as goal
 
 pub rows-preserved : goal.rows-preserved
 rows-preserved c =

@@ -1,6 +1,6 @@
 use Rattle.std.proofs.Common.{ap, drop, ◌∙◌}
 use Rattle.archive_counts.proofs.Members.{split_is}
-use Rattle.archive_counts.proofs.json.split_word.Goals as goal
+use Rattle.archive_counts.proofs.json_lines.split_word.Goals as goal
 
 pub returns : goal.returns
 returns c = λ word words free is.

@@ -1,5 +1,5 @@
 use Rattle.archive_counts.proofs.Objects.{front_json}
-use Rattle.archive_counts.proofs.json.put_first_members.Goals as goal
+use Rattle.archive_counts.proofs.json_lines.put_first_members.Goals as goal
 
 pub returns : goal.returns
 returns c =

@@ -1,5 +1,5 @@
 use Rattle.archive_counts.proofs.Members.{object_puts}
-use Rattle.archive_counts.proofs.json.put_row.Goals as goal
+use Rattle.archive_counts.proofs.json_lines.put_row.Goals as goal
 
 pub returns : goal.returns
 returns c =
