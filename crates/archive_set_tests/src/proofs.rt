@@ -1,8 +1,8 @@
 //! Proofs that records are in an archive, or are not.
 
 use archive_proof::{
-    ASKED_MAX, Answer, AskFault, AskedRecord, Proof, Prover, ProverFault, RecordsFault, confirm,
-    confirm_all, put_proof, read_proof, read_records,
+    ASKED_MAX, Answer, AskFault, AskedRecord, Proof, Prover, RecordsFault, confirm, put_proof,
+    read_proof, read_records,
 };
 use archive_text::{ArchiveFault, entry_of_octets};
 use archive_tree::TreeHead;
@@ -34,14 +34,9 @@ fn asked(alloc: Global, texts: &[&[u8]]) -> Result<Vec<AskedRecord>, Fail> {
     Ok(records)
 }
 
-// proofs of these records, before the first entry
-fn begun(alloc: Global, asked: Vec<AskedRecord>) -> Result<Prover, ProverFault> {
-    Prover::new(alloc, asked)
-}
-
 // the head of the records but one, and the texts of the proofs of those that are asked for
 fn proved(alloc: Global, texts: &[&[u8]], without: usize) -> Result<(TreeHead, Vec<u8>), Fail> {
-    let mut prover = begun(alloc, asked(alloc, texts)?)?;
+    let mut prover = Prover::new(alloc, asked(alloc, texts)?)?;
     for (n, octets) in RECORDS.iter().enumerate() {
         if n != without {
             if let Ok(entry) = entry_of_octets(octets) {
@@ -158,40 +153,5 @@ fn records_are_read_from_a_text(rt: HostRuntime) -> Result<(), Fail> {
     assert!(rt; matches!(count_of(rt.alloc(), &text), Ok(ASKED_MAX)));
     text.extend_from_slice(b"1")?;
     assert!(rt; matches!(count_of(rt.alloc(), &text), Err(RecordsFault::TooMany)));
-    Ok(())
-}
-
-// so many records
-fn many(alloc: Global, count: usize) -> Result<Vec<AskedRecord>, Fail> {
-    let mut records = Vec::new(alloc);
-    for _ in 0..count {
-        records.push(read(alloc, RECORDS[0]).ok().ok_or("a fault")?)?;
-    }
-    Ok(records)
-}
-
-#[test]
-fn no_proofs_of_more_records_are_begun(rt: HostRuntime) -> Result<(), Fail> {
-    assert!(rt; begun(rt.alloc(), many(rt.alloc(), ASKED_MAX)?).is_ok());
-    let more = begun(rt.alloc(), many(rt.alloc(), ASKED_MAX + 1)?);
-    assert!(rt; matches!(more, Err(ProverFault::TooMany)));
-    Ok(())
-}
-
-#[test]
-fn a_text_of_proofs_is_confirmed_in_order(rt: HostRuntime) -> Result<(), Fail> {
-    let (head, text) = proved(rt.alloc(), &RECORDS[1..4], 2)?;
-    let records = asked(rt.alloc(), &RECORDS[1..4])?;
-    let (answers, left) = confirm_all(rt.alloc(), &head, &records, &text)?;
-    assert!(rt;
-        matches!(
-            answers.as_slice(),
-            [Answer::Present, Answer::Absent, Answer::Present]
-        )
-    );
-    assert!(rt; left.is_some_and(|rest| rest.is_empty()));
-    let (answers, left) = confirm_all(rt.alloc(), &head, &records[1..], &text)?;
-    assert!(rt; matches!(answers.as_slice(), [Answer::NotShown, Answer::NotShown]));
-    assert!(rt; left.is_some_and(|rest| !rest.is_empty()));
     Ok(())
 }
