@@ -97,14 +97,16 @@ def every_octet(random, results, program, head, record, text, false):
 def refused(program, results):
     """What `prove` and `confirm` say of records that are none, and of archives that are none."""
     root = ["1", ROOTS[1]]
-    for text, line in [(b"x", b"records bad-frame 0\n"), (b"3 <1>", b"records bad-entry 0 syntax priority 3\n"),
-                       (counted(POOL[:1] * 1025), b"records too-many\n"), (b"1" * (1 << 24) + b"1", b"records too-long\n")]:
+    for text, status, line in [(b"x", 1, b"records bad-frame 0\n"), (b"3 <1>", 1, b"records bad-entry 0 syntax version 3\n"),
+                               (counted(POOL[:1] * 1025), 2, b"records too-many\n"),
+                               (b"1" * (1 << 24) + b"1", 2, b"records too-long\n")]:
         name = program.folder.file("records", text)
-        results.same(f"prove: {line}", program.run(["prove", name], b""), (2, b"", line))
-        results.same(f"confirm: {line}", program.run(["confirm", *root, name], b""), (2, b"", line))
+        results.same(f"prove: {line}", program.run(["prove", name], b""), (status, b"", line))
+        results.same(f"confirm: {line}", program.run(["confirm", *root, name], b""), (status, b"", line))
     nowhere = str(program.folder.path / "nowhere")
-    results.same("no records to prove", program.run(["prove", nowhere], b""), (2, b"", b"records no file\n"))
-    results.same("no records to confirm", program.run(["confirm", *root, nowhere], b""), (2, b"", b"records no file\n"))
+    why = f"records no file\n{nowhere}: No such file or directory (os error 2)\n".encode()
+    results.same("no records to prove", program.run(["prove", nowhere], b""), (2, b"", why))
+    results.same("no records to confirm", program.run(["confirm", *root, nowhere], b""), (2, b"", why))
     name = program.folder.file("records", counted(POOL[:1]))
     results.same("no archive", program.run(["prove", name], b"x"), (1, b"", b"bad-frame 0\n"))
     results.same("no proof", program.run(["confirm", *root, name], b""), (1, b"not shown\n", b""))

@@ -1,5 +1,5 @@
 -- What a run of each command does, whatever the devices do.
-use Rattle.std.specs.Prelude.{◌≡◌, ◌⊎◌, ℕ, List, [], ◌∷◌, Bool, true, false, IfSome, IsSome, codes, string_bytes}
+use Rattle.std.specs.Prelude.{◌≡◌, ◌⊎◌, ℕ, List, [], ◌∷◌, Option, Bool, true, false, IfSome, IsSome, codes, string_bytes}
 use Rattle.octet_devices.specs.Device.{InputState, OutputState}
 use Rattle.driver.specs.Devices.{Devices, Reports, devices}
 use Rattle.driver.specs.Run.{Ran, WritesPrefix}
