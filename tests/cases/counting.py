@@ -53,7 +53,7 @@ def odd_words(program, results):
 
 def bars(program, results):
     """Bars are as long as their counts say, and no line is wider than the terminal unless its words are."""
-    text = archive_text(b"<13>1 2026-11-25T%02d:00:00.000000Z h%d - - - %d" % (n % 5, n % 3, n) for n in range(60) if n % 5 or n < 20)
+    text = archive_text(b"<13>1 2026-11-25T%02d:00:00.000000Z h%d - - - - %d" % (n % 5, n % 3, n) for n in range(60) if n % 5 or n < 20)
     for columns in "40", "80", "200", "", "x":
         width = int(columns) if columns.isdigit() else 80
         for keys in ("hour",), ("host",), ("day", "host"):
