@@ -3,8 +3,9 @@
 
 usage: confirm.py COUNT ROOT RECORDS < PROOFS
 
-RECORDS has counted canonical records, in the order of the proofs. A line for each: present, absent or not shown. The
-status is 0 if all are shown, 1 if one is not, and 2 if RECORDS cannot be read, or an argument is wrong."""
+RECORDS has counted records in canonical form (`syslogbox convert --to counted` writes them), in the order of the proofs: what is
+said of any other spelling is worth nothing. A line for each: present, absent or not shown. The status is 0 if all are shown, 1 if
+one is not or octets follow the last proof, which is told, and 2 if RECORDS cannot be read, or an argument is wrong."""
 import hashlib
 import re
 import sys
@@ -39,6 +40,8 @@ def ended(text, at):
 
 def read_path(text, at):
     head = re.compile(NUMBER + b" " + NUMBER + b"\n").match(text, at)
+    if len(head[1]) > 20 or int(head[1]) >= 1 << 64 or len(head[2]) > 2 or int(head[2]) > 64:
+        raise ValueError("the path is longer than any")
     index, number, at = int(head[1]), int(head[2]), head.end()
     lines = re.compile(rb"(?:[0-9a-f]{64}\n){%d}" % number).match(text, at).group()
     return (index, [bytes.fromhex(line.decode()) for line in lines.split()]), at + len(lines)
@@ -48,6 +51,8 @@ def read_neighbour(word, text, at):
     found = re.compile(word + b" " + NUMBER + b" ").match(text, at)
     if not found:
         return None, at
+    if len(found[1]) > 6:
+        raise ValueError("the record is longer than any")
     end = found.end() + int(found[1])
     path, behind = read_path(text, ended(text, end))
     return (text[found.end():end], *path), behind
@@ -92,15 +97,18 @@ def records_of(path):
 
 
 def confirm(count, root, records):
-    """Prints a line for each record; gives whether the proofs show all of them."""
-    text, at, all_shown = sys.stdin.buffer.read(), 0, True
+    """Prints a line for each record; gives whether the proofs show all of them, and nothing follows the last."""
+    text, at, all_shown, is_read = sys.stdin.buffer.read(), 0, True, True
     for record in records:
         try:
             answer, at = shown(count, root, record, text, at)
-        except (AttributeError, IndexError):  # no proof is there, nor behind
-            answer, at = "not shown", len(text)
+        except (AttributeError, IndexError, TypeError, ValueError):  # no proof is there, nor behind
+            answer, at, is_read = "not shown", len(text), False
         all_shown &= answer != "not shown"
         print(answer)
+    if is_read and at < len(text):
+        print(f"trailing {at}", file=sys.stderr)
+        return False
     return all_shown
 
 
