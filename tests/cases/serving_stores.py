@@ -44,15 +44,20 @@ def segments_of(store):
     return {name for name in os.listdir(os.fsencode(store)) if SEGMENT.fullmatch(name)}
 
 
+def journal_names(store):
+    return {name for name in os.listdir(os.fsencode(store)) if JOURNAL.fullmatch(name)}
+
+
 def killed(runs, store, words, shares, before, sent):
     """A server that is killed while all send; what was read before has to be there, and what is read before the kill is
     given."""
     with runs.server(*words, store=store) as server:
         found = server.held()
         runs.results.check("what was read before a kill is there", before <= found <= set(sent), str(server.told()))
-        begun = segments_of(store)
+        begun = journal_names(store)
         senders = [Sender(server, *share) for share in shares]
-        seen = until(lambda: segments_of(store) - begun)
+        # segments of the same records have the names that are there, but each checkpoint begins another journal
+        seen = until(lambda: journal_names(store) - begun)
         before = server.held()
         runs.results.check("a kill comes after a checkpoint", seen and before, str(server.lines()))
         server.kill()
