@@ -7,6 +7,11 @@ abbrev pub is_datagrams : Bound → Bool
 is_datagrams (Streams socket framing) = false
 is_datagrams (Datagrams socket addressed) = true
 
+-- its datagrams come with the addresses of their senders
+abbrev pub is_addressed : Bound → Bool
+is_addressed (Streams socket framing) = false
+is_addressed (Datagrams socket addressed) = addressed
+
 -- whether a number is that of a listener of datagrams, where these are the kinds of the listeners, whose numbers begin at 1
 abbrev pub has_datagrams : List Bool → ℕ → Bool
 has_datagrams kinds zero = false

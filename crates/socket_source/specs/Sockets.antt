@@ -1,5 +1,5 @@
 -- What is open of the sockets.
-use Rattle.std.specs.Prelude.{◌≡◌, ℕ, ◌<◌, ◌≤◌, Bool, false, is_some}
+use Rattle.std.specs.Prelude.{◌≡◌, ℕ, ◌<◌, ◌≤◌, Bool, false, is_some, IsSome}
 use Rattle.slab.specs.Slab.{Slab, get}
 use Rattle.socket_source.specs.Steps.{with_open}
 use Rattle.socket_source.specs.declared.refusal.Reading.{Reading}
@@ -65,3 +65,16 @@ IsAtOrDisplaced listener Tick = ⊥
 IsAtOrDisplaced listener InputEnded = ⊥
 IsAtOrDisplaced listener Finished = ⊥
 IsAtOrDisplaced listener (Failed fault) = ⊥
+
+-- a datagram comes with the address of its sender
+abbrev pub HasSender : ServerStep → Type 0
+HasSender (Opened conn l framing peer) = Unit {0}
+HasSender (step.Piece conn len) = Unit {0}
+HasSender (step.Ended conn e) = Unit {0}
+HasSender (Datagram l peer len) = IsSome peer
+HasSender (TurnedAway l framing peer) = Unit {0}
+HasSender (NotAllowed l peer) = Unit {0}
+HasSender Tick = Unit {0}
+HasSender InputEnded = Unit {0}
+HasSender Finished = Unit {0}
+HasSender (Failed fault) = Unit {0}

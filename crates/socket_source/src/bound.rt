@@ -1,5 +1,5 @@
 //! The sockets of the listeners.
-ghost use Rattle.std.specs.Prelude.{◌≡◌, ◌≤◌, length, IfOk};
+ghost use Rattle.std.specs.Prelude.{◌≡◌, ◌≤◌, length, true, IfOk, IsSome};
 
 use crate::listener::{Inherited, Listener};
 use crate::refusal::{Refusal, refusal_of};
@@ -113,7 +113,8 @@ fn receive_from(
     addressed: bool,
     buf: &mut [u8],
 ) -> io::Result<(usize, Option<SocketAddr>)>
-    ensures { IfOk result (λ r. r.0 ≤ length buf.new) }
+    ensures within { IfOk result (λ r. r.0 ≤ length buf.new) }
+    ensures from { addressed ≡ true → IfOk result (λ r. IsSome r.1) }
 {
     if addressed {
         let (len, peer) = socket.recv_from(buf)?;
@@ -172,13 +173,14 @@ pub(crate) fn accept_from(socket: &TcpListener) -> Result<(TcpStream, SocketAddr
     }
 }
 
-/// Receives a datagram.
+/// Receives a datagram. Where peers have addresses, that of its sender comes with it.
 pub(crate) fn receive(
     socket: &UdpSocket,
     addressed: bool,
     buf: &mut [u8],
 ) -> Result<(usize, Option<SocketAddr>), Refusal>
-    ensures { IfOk result (λ r. r.0 ≤ length buf.new) }
+    ensures within { IfOk result (λ r. r.0 ≤ length buf.new) }
+    ensures from { addressed ≡ true → IfOk result (λ r. IsSome r.1) }
 {
     match receive_from(socket, addressed, buf) {
         Ok(received) => Ok(received),

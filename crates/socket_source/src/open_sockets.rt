@@ -1,10 +1,11 @@
 //! The sockets that are listened on, and those that are open.
-ghost use Rattle.std.specs.Prelude.{◌≡◌, ◌<◌, ◌≤◌, false, true, length, vec_len, IfNone, IfSome, IsSome, None};
-ghost use Rattle.socket_source.specs.Sockets.{IsAt, IsAtOrDisplaced, IsOf};
+ghost use Rattle.std.specs.Prelude.{◌≡◌, ◌<◌, ◌≤◌, false, true, length, slice_get, vec_len, IfNone, IfSome, IsSome, None};
+ghost use Rattle.socket_source.specs.Kinds.{is_addressed};
+ghost use Rattle.socket_source.specs.Sockets.{HasSender, IsAt, IsAtOrDisplaced, IsOf};
 ghost use Rattle.peer_rules.specs.AllowLists.{networks_of};
-ghost use Rattle.socket_source.specs.Steps.{Becomes, IfLawful, IsLawful, is_peer, without_open};
+ghost use Rattle.socket_source.specs.Steps.{Becomes, IfLawful, IsLawful, is_peer, is_sender, without_open};
 ghost use Rattle.socket_source.specs.Turns.{IsWithinShare};
-ghost use Rattle.socket_source.specs.declared.step.ServerStep.TheVariants.{NotAllowed};
+ghost use Rattle.socket_source.specs.declared.step.ServerStep.TheVariants.{Datagram, NotAllowed};
 
 use crate::allowed::is_peer;
 use crate::bound::{Bound, accept_from, receive};
@@ -80,6 +81,8 @@ impl OpenSockets {
         requires { listener < vec_len self.now.listeners }
         ensures lawful { IsLawful (standing_of self.now) (standing_of self.now) 0 result }
         ensures at { IsAt listener result }
+        ensures elsewhere { is_peer (networks_of self.now.allowed) peer ≡ false
+            → result ≡ NotAllowed listener peer }
     {
         if is_peer(&self.allowed, peer) {
             ServerStep::TurnedAway {
@@ -239,6 +242,10 @@ impl OpenSockets {
         requires { listener < vec_len self.now.listeners }
         ensures lawful { IsLawful (standing_of self.now) (standing_of self.now) len result }
         ensures at { IsAt listener result }
+        ensures given { is_sender (networks_of self.now.allowed) peer ≡ true
+            → result ≡ Datagram listener peer len }
+        ensures elsewhere { IfSome peer (λ address. is_peer (networks_of self.now.allowed) address ≡ false
+            → result ≡ NotAllowed listener address) }
     {
         match peer {
             Some(peer) if !is_peer(&self.allowed, peer) => {
@@ -256,6 +263,9 @@ impl OpenSockets {
     fn receive(&mut self, listener: usize, buf: &mut [u8]) -> Taken
         ensures at { IfSome result.step (IsAt listener) }
         ensures lawful { IfLawful (standing_of self.old) (standing_of self.new) (length buf.new) result.step }
+        // where its senders have addresses, a datagram comes with one
+        ensures from { IfSome (slice_get self.old.listeners.items listener) (λ bound.
+            is_addressed bound ≡ true → IfSome result.step HasSender) }
     {
         let Some(Bound::Datagrams { socket, addressed }) = self.listeners.get(listener) else {
             return Taken::none(Retry::Reported);
