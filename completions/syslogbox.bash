@@ -16,7 +16,7 @@ _syslogbox_options() {
         archive)
             echo "--framing --trim --legacy --zone --dialect --spill --memory --help"
             ;;
-        merge | migrate | union | common | minus | diff | root | prove | confirm | verify | compact)
+        merge | migrate | union | common | minus | diff | root | prove | confirm | verify | compact | add)
             echo "--help"
             ;;
         select)
@@ -31,6 +31,9 @@ _syslogbox_options() {
             ;;
         read)
             echo "--from --to --undated --help"
+            ;;
+        expire)
+            echo "--before --keep --undated --dry-run --help"
             ;;
         send)
             echo "--facility --severity --up-to --framing --host --app --proc --msgid --micros --help"
@@ -55,11 +58,11 @@ _syslogbox_value() {
         "convert --zone" | "archive --legacy" | "archive --zone" | "archive --memory" | "select --from" | \
         "select --to" | "select --host" | "select --app" | "select --proc" | "select --msgid" | "select --id" | \
         "select --message" | "select --host-like" | "select --app-like" | "select --not-host" | "select --not-app" | \
-        "select --not-message" | "count --by" | "count --top" | "read --from" | "read --to" | "send --host" | \
-        "send --app" | "send --proc" | "send --msgid" | "send --micros" | "collect --legacy" | "collect --zone" | \
-        "serve --udp" | "serve --counted" | "serve --lf" | "serve --allow" | "serve --connections" | \
-        "serve --per-peer" | "serve --idle" | "serve --commit" | "serve --checkpoint" | "serve --legacy" | \
-        "serve --zone")
+        "select --not-message" | "count --by" | "count --top" | "read --from" | "read --to" | "expire --before" | \
+        "expire --keep" | "send --host" | "send --app" | "send --proc" | "send --msgid" | "send --micros" | \
+        "collect --legacy" | "collect --zone" | "serve --udp" | "serve --counted" | "serve --lf" | "serve --allow" | \
+        "serve --connections" | "serve --per-peer" | "serve --idle" | "serve --commit" | "serve --checkpoint" | \
+        "serve --legacy" | "serve --zone")
             echo "text"
             ;;
         "show --dialect" | "check --dialect" | "convert --dialect" | "archive --dialect" | "collect --dialect" | \
@@ -97,7 +100,7 @@ _syslogbox_place() {
         "merge "* | "migrate "* | "union "* | "common "* | "minus "* | "diff "* | "prove "* | "confirm 3")
             echo "file"
             ;;
-        "read "* | "verify "* | "compact "* | "serve "*)
+        "read "* | "verify "* | "compact "* | "add "* | "expire "* | "serve "*)
             echo "folder"
             ;;
         "collect 1")
@@ -108,7 +111,7 @@ _syslogbox_place() {
 
 _syslogbox() {
     local command=${COMP_WORDS[1]} word=$2 previous=$3 kind="" action="" words=""
-    local commands="show check convert archive merge migrate union common minus diff select digest count root prove confirm read verify compact send collect serve help"
+    local commands="show check convert archive merge migrate union common minus diff select digest count root prove confirm read verify compact add expire send collect serve help"
     if [ "$COMP_CWORD" -eq 1 ]; then
         words="$commands --help --version"
     elif [ "$command" = help ]; then

@@ -24,6 +24,8 @@ complete -c syslogbox -n __fish_use_subcommand -a confirm -d 'Say what proofs sh
 complete -c syslogbox -n __fish_use_subcommand -a read -d 'Write the archive of the records that a store holds'
 complete -c syslogbox -n __fish_use_subcommand -a verify -d 'Read a whole store and write a line for each damaged file'
 complete -c syslogbox -n __fish_use_subcommand -a compact -d 'Join the segments of each day of a store that has more than eight'
+complete -c syslogbox -n __fish_use_subcommand -a add -d 'Put the records of an archive into a store'
+complete -c syslogbox -n __fish_use_subcommand -a expire -d 'Remove old records from a store, and write a line for each file that goes'
 complete -c syslogbox -n __fish_use_subcommand -a send -d 'Write one record as a frame'
 complete -c syslogbox -n __fish_use_subcommand -a collect -d 'Receive records on 127.0.0.1 and write them as an archive'
 complete -c syslogbox -n __fish_use_subcommand -a serve -d 'Receive records from sockets into a store, until it is stopped'
@@ -65,7 +67,12 @@ complete -c syslogbox -n "__fish_seen_subcommand_from count" -l top -x -d 'Write
 complete -c syslogbox -n "__fish_seen_subcommand_from count" -l json -d 'Write each line as JSON'
 complete -c syslogbox -n "__fish_seen_subcommand_from count" -l bars -d 'Draw bars in the width of the terminal'
 complete -c syslogbox -n "__fish_seen_subcommand_from prove confirm" -F
-complete -c syslogbox -n "__fish_seen_subcommand_from read verify compact" -a '(__fish_complete_directories)'
+complete -c syslogbox -n "__fish_seen_subcommand_from read verify compact expire" -a '(__fish_complete_directories)'
+complete -c syslogbox -n "__fish_seen_subcommand_from add serve" -a '(__fish_complete_directories)'
+complete -c syslogbox -n "__fish_seen_subcommand_from expire" -l before -x -d 'Remove the records before TIME, which is rounded down to the hour'
+complete -c syslogbox -n "__fish_seen_subcommand_from expire" -l keep -x -d 'Remove the records that are older than DAYS days, rounded down to the hour'
+complete -c syslogbox -n "__fish_seen_subcommand_from expire" -l undated -d 'Remove the records without a time, too'
+complete -c syslogbox -n "__fish_seen_subcommand_from expire" -l dry-run -d 'Write the lines alone, and change nothing'
 complete -c syslogbox -n "__fish_seen_subcommand_from send" -l facility -x -a 'kern user mail daemon auth syslog lpr news uucp cron authpriv ftp ntp audit alert clock local0 local1 local2 local3 local4 local5 local6 local7' -d 'Facility'
 complete -c syslogbox -n "__fish_seen_subcommand_from send" -l severity -x -a 'emerg alert crit err warning notice info debug' -d 'Severity'
 complete -c syslogbox -n "__fish_seen_subcommand_from send" -l up-to -x -a 'emerg alert crit err warning notice info debug' -d 'Least severe severity that is sent'
@@ -76,7 +83,6 @@ complete -c syslogbox -n "__fish_seen_subcommand_from send" -l proc -x -d 'PROCI
 complete -c syslogbox -n "__fish_seen_subcommand_from send" -l msgid -x -d 'MSGID'
 complete -c syslogbox -n "__fish_seen_subcommand_from send" -l micros -x -d 'Time'
 complete -c syslogbox -n "__fish_seen_subcommand_from collect" -a 'udp counted lf'
-complete -c syslogbox -n "__fish_seen_subcommand_from serve" -a '(__fish_complete_directories)'
 complete -c syslogbox -n "__fish_seen_subcommand_from serve" -l udp -x -d 'Receive datagrams on ADDR:PORT'
 complete -c syslogbox -n "__fish_seen_subcommand_from serve" -l counted -x -d 'Accept connections on ADDR:PORT whose frames are counted'
 complete -c syslogbox -n "__fish_seen_subcommand_from serve" -l lf -x -d 'Accept connections on ADDR:PORT whose frames are lines'
@@ -89,4 +95,4 @@ complete -c syslogbox -n "__fish_seen_subcommand_from serve" -l idle -x -d 'Seco
 complete -c syslogbox -n "__fish_seen_subcommand_from serve" -l commit -x -d 'Milliseconds within which a record is committed'
 complete -c syslogbox -n "__fish_seen_subcommand_from serve" -l checkpoint -x -d 'MiB that a journal may reach before a checkpoint'
 complete -c syslogbox -n "__fish_seen_subcommand_from serve" -l until-eof -d 'End when standard input ends'
-complete -c syslogbox -n "__fish_seen_subcommand_from help" -a "show check convert archive merge migrate union common minus diff select digest count root prove confirm read verify compact send collect serve"
+complete -c syslogbox -n "__fish_seen_subcommand_from help" -a "show check convert archive merge migrate union common minus diff select digest count root prove confirm read verify compact add expire send collect serve"

@@ -1,7 +1,7 @@
 #!/usr/bin/env python3
 """Writes what follows from the table of options: the completions, and the lists of options in the manual and in docs/COMMANDS.md.
 
-The table is crates/option_values/src/options.rt. Completions are written whole; in a page, what stands between a line that
+The tables are options.rt and commands.rt of crates/option_values/src. Completions are written whole; in a page, what stands between a line that
 names a list and the next line that ends one is. 'options.py --check' writes nothing, and fails where a file differs.
 """
 import re
@@ -9,7 +9,7 @@ import sys
 from pathlib import Path
 
 ROOT = Path(__file__).resolve().parent.parent
-TABLE = ROOT / "crates/option_values/src/options.rt"
+TABLES = [ROOT / "crates/option_values/src" / name for name in ("options.rt", "commands.rt")]
 TYPES = ROOT / "crates/option_values/src/option_row.rt"
 WIDTH = 118
 WRITTEN = "Written by scripts/options.py from the table of options."
@@ -67,7 +67,7 @@ def spread(word):
 
 def read():
     """The commands in the order of the help: name, what it does, options."""
-    text = TABLE.read_text()
+    text = "".join(table.read_text() for table in TABLES)
     facilities = re.search(r'Kind::Facility => String::from_str\(\s*alloc,\s*"(.*?)"', TYPES.read_text(), re.DOTALL)[1]
     facilities = re.sub(r"\\\n\s*", "", facilities)
     rows = {name: Option(dict(FIELD.findall(body + "\n")), facilities) for name, body in ROW.findall(text)}
@@ -78,7 +78,7 @@ def read():
         commands.append((name, about, [rows[it] for it in options]))
     unused = set(rows.values()) - {it for _, _, options in commands for it in options}
     if len(commands) < 2 or unused:
-        sys.exit(f"{TABLE}: no command has {[it.name for it in unused]}" if unused else f"{TABLE} has no rows")
+        sys.exit(f"no command has {[it.name for it in unused]}" if unused else f"{TABLES[1]} has no rows")
     return commands
 
 

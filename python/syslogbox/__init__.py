@@ -25,4 +25,4 @@ __all__ = ["ENTRY_MAX", "FRAME_MAX", "ArchiveError", "Element", "Field", "Format
            "PacketError", "Readable", "Record", "RecordError", "Refusal", "Source", "StreamError", "SyslogError",
            "Writable", "canonical", "check", "check_all", "check_stream", "framed", "frames", "is_record", "legacy",
            "library_version", "records", "union", "view"]
-__version__ = "0.6.0"
+__version__ = "0.7.0"

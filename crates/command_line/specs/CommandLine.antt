@@ -239,11 +239,22 @@ with_stream_commands a =
 abbrev pub with_archives : App → App
 with_archives a = with_stream_commands (with_set_commands (with_archive_commands a))
 
+-- the command that removes old records from a store
+abbrev pub expire_app : App
+expire_app =
+    with_rule (with_rule (with_rule (with_rule (folder_app (codes "expire")) (option_rule (codes "before")))
+    (option_rule (codes "keep"))) (flag_rule (codes "undated"))) (flag_rule (codes "dry-run"))
+
+-- the commands that change a store
+abbrev pub with_changers : App → App
+with_changers a =
+    with_subcommand (with_subcommand (with_subcommand a (folder_app (codes "compact")).top)
+    (folder_app (codes "add")).top) expire_app.top
+
 -- the commands on a store
 abbrev pub with_store_commands : App → App
 with_store_commands a =
-    with_subcommand (with_subcommand (with_subcommand a read_app.top) (folder_app (codes "verify")).top)
-    (folder_app (codes "compact")).top
+    with_changers (with_subcommand (with_subcommand a read_app.top) (folder_app (codes "verify")).top)
 
 -- the commands that receive records from sockets
 abbrev pub with_receivers : App → App

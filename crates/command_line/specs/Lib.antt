@@ -1,5 +1,6 @@
 pub mod CommandLine
 pub mod Counts
+pub mod Expiries
 pub mod Heads
 pub mod Names
 pub mod Ranges

@@ -17,6 +17,7 @@ use Rattle.archive_counts.specs.declared.key.CountKey.{CountKey}
 use Rattle.archive_tree.specs.declared.head.TreeHead.{TreeHead}
 use Rattle.command_line.specs.CommandLine.{line_app}
 use Rattle.command_line.specs.Counts.{form_by, keys_in}
+use Rattle.command_line.specs.Expiries.{expire_in}
 use Rattle.command_line.specs.Heads.{hash_in}
 use Rattle.command_line.specs.Names.{period_of}
 use Rattle.command_line.specs.Ranges.{range_in}
@@ -30,6 +31,7 @@ use Rattle.server_words.specs.Serves.{ServeAsked, serve_asked, serve_in}
 use Rattle.send_engine.specs.Options.{OptionTexts, texts_of}
 use Rattle.frame_engine.specs.declared.input_framing.InputFraming.{InputFraming}
 use Rattle.frame_engine.specs.declared.input_framing.InputFraming.TheVariants.{Datagram, Stream}
+use Rattle.command_line.specs.declared.request.ExpireWords.{ExpireWords}
 use Rattle.command_line.specs.declared.request.FileRequest.{FileRequest}
 use Rattle.command_line.specs.declared.request.FileRequest.TheVariants as files
 use Rattle.command_line.specs.declared.request.FrameCommand.{FrameCommand}
@@ -70,6 +72,8 @@ pub data Asked : Type 0 where
   Read : Text → InRange → Asked
   Verify : Text → Asked
   Compact : Text → Asked
+  Add : Text → Asked
+  Expire : Text → ExpireWords → Asked
   Serve : ServeAsked → Asked
 
 -- a command on frames
@@ -108,6 +112,8 @@ asked_by (request.Collect words) = Collect words
 asked_by (request.Read dir range) = Read dir.now range
 asked_by (request.Verify dir) = Verify dir.now
 asked_by (request.Compact dir) = Compact dir.now
+asked_by (request.Add dir) = Add dir.now
+asked_by (request.Expire dir words) = Expire dir.now words
 asked_by (request.Serve words) = Serve (serve_asked words)
 
 -- the framing with this name
@@ -290,12 +296,23 @@ read_verify rows = option_map (λ dir. Verify dir) (first_of (codes "DIR") rows)
 abbrev pub read_compact : List Row → Option Asked
 read_compact rows = option_map (λ dir. Compact dir) (first_of (codes "DIR") rows)
 
+-- `add` with its folder
+abbrev pub read_add : List Row → Option Asked
+read_add rows = option_map (λ dir. Add dir) (first_of (codes "DIR") rows)
+
+-- `expire` with the values of its options
+abbrev pub read_expire : List Row → Option Asked
+read_expire rows =
+    option_and_then (λ dir. option_map (λ words. Expire dir words) (expire_in rows)) (first_of (codes "DIR") rows)
+
 -- the request of a command on a store
 abbrev pub read_store : Text → List Row → Option Asked
 read_store name rows =
     if bytes_eq name (codes "read") then read_read rows
     else (if bytes_eq name (codes "verify") then read_verify rows
-    else (if bytes_eq name (codes "compact") then read_compact rows else None))
+    else (if bytes_eq name (codes "compact") then read_compact rows
+    else (if bytes_eq name (codes "add") then read_add rows
+    else (if bytes_eq name (codes "expire") then read_expire rows else None))))
 
 -- `serve` with its values
 abbrev pub read_serve : List Row → Option Asked

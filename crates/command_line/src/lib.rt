@@ -5,6 +5,7 @@
 mod collecting;
 mod count_words;
 mod digest_words;
+mod expire_words;
 mod file_words;
 mod frame_words;
 mod line;
@@ -17,5 +18,5 @@ mod store_words;
 mod words;
 
 pub use collecting::collect_words;
-pub use request::{FileRequest, FrameCommand, FrameRequest, Request};
+pub use request::{ExpireBound, ExpireWords, FileRequest, FrameCommand, FrameRequest, Request};
 pub use words::{WordsFault, read_words};

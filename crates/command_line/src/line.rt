@@ -8,12 +8,12 @@ ghost use Rattle.command_line.specs.CommandLine.{empty_app, line_app, option_rul
 ghost use Rattle.command_line.specs.Tables.{app_by, rule_by, with_apps, with_rules};
 
 use clap::{Arg, ArgAction, Command};
-use option_values::options::COMMANDS;
+use option_values::commands::COMMANDS;
 use option_values::{CommandRow, FILES_MAX, Form, OptionRow};
 use std::alloc::{AllocError, Global};
 
 // What `--version` tells beside the program's name.
-const VERSION: &str = "0.6.0";
+const VERSION: &str = "0.7.0";
 
 // An option that takes a value.
 fn single<'a>(alloc: Global, name: &'a str) -> Arg<'a>

@@ -10,6 +10,7 @@ use send_engine::SendOptions;
 use server_words::ServeWords;
 use syslog_frame::Framing;
 use syslog_legacy::FrameReading;
+use syslog_value::Instant;
 
 /// What is done with the frames of standard input.
 #[derive(Clone, Copy, Debug, PartialEq, Eq)]
@@ -51,6 +52,26 @@ pub enum FileRequest<'a> {
     Minus { left: &'a str, right: &'a str },
     /// `diff`: one line for each record that only one of two archives has.
     Diff { left: &'a str, right: &'a str },
+}
+
+/// How old the records are that `expire` removes.
+#[derive(Clone, Copy, Debug, PartialEq, Eq)]
+pub enum ExpireBound {
+    /// They are from before an instant.
+    Before(Instant),
+    /// They are older than so many days.
+    Keep { days: u32 },
+}
+
+/// What `expire` removes.
+#[derive(Clone, Copy, Debug, PartialEq, Eq)]
+pub struct ExpireWords {
+    /// How old the records are.
+    pub bound: ExpireBound,
+    /// Whether records without a time are removed, too.
+    pub undated: bool,
+    /// Whether the store stays as it is, and lines say what would be removed.
+    pub dry_run: bool,
 }
 
 /// What the words of a command line ask for. Names of files and folders are lent by the words.
@@ -112,6 +133,15 @@ pub enum Request<'a> {
     /// `compact`: the segments of each day of a store that has many are joined.
     Compact {
         dir: &'a str,
+    },
+    /// `add`: the records of an archive, into a store.
+    Add {
+        dir: &'a str,
+    },
+    /// `expire`: old records of a store are removed.
+    Expire {
+        dir: &'a str,
+        words: ExpireWords,
     },
     /// `serve`: the records that come to sockets, into a store.
     Serve {

@@ -1,15 +1,16 @@
-//! The words of the commands on a store: `read`, `verify` and `compact`.
+//! The words of the commands on a store: `read`, `verify`, `compact`, `add` and `expire`.
 
 ghost use Rattle.std.specs.Prelude.{◌≡◌, option_map};
 ghost use Rattle.std.specs.Result.{result_ok};
 ghost use Rattle.clap.specs.Words.{found_of, rows_of};
-ghost use Rattle.command_line.specs.Requests.{asked_by, read_compact, read_read, read_store, read_verify};
+ghost use Rattle.command_line.specs.Requests.{asked_by, read_add, read_compact, read_read, read_store, read_verify};
 ghost use Rattle.command_line.specs.Ranges.{range_in};
 
+use crate::expire_words::read_expire_words;
 use crate::request::Request;
 use archive_sets::InRange;
 use clap::ArgMatches;
-use option_values::options::{DIR, FROM, UNDATED, UNTIL};
+use option_values::options::{DIR, FROM, NEW_DIR, UNDATED, UNTIL};
 use option_values::{Refusal, is_given, needed, optional_instant};
 
 // The range of time by the options.
@@ -55,6 +56,14 @@ fn read_compact_words<'a>(matches: &ArgMatches<'a>) -> Result<Request<'a>, Refus
     Ok(Request::Compact { dir })
 }
 
+// The request of `add`.
+fn read_add_words<'a>(matches: &ArgMatches<'a>) -> Result<Request<'a>, Refusal<'a>>
+    ensures { option_map asked_by (result_ok result) ≡ read_add (rows_of (found_of matches.now)) }
+{
+    let dir = needed(matches, &NEW_DIR)?;
+    Ok(Request::Add { dir })
+}
+
 /// The request of the command on a store with this name.
 pub fn read_store_words<'a>(
     name: &str,
@@ -67,6 +76,8 @@ pub fn read_store_words<'a>(
         "read" => read_read_words(matches),
         "verify" => read_verify_words(matches),
         "compact" => read_compact_words(matches),
+        "add" => read_add_words(matches),
+        "expire" => read_expire_words(matches),
         _ => Err(Refusal::Missing),
     }
 }

@@ -19,9 +19,9 @@ use Rattle.archive_engine.specs.Migrated.{RanMigrate}
 use Rattle.archive_sets.specs.Together.{MeetsAll}
 use Rattle.archive_sets.specs.declared.conditions.Conditions.{Conditions}
 use Rattle.condition_words.specs.Conditions.{ConditionsAsked, conditions_asked}
-use Rattle.command_line.specs.Requests.{Archive, Asked, Check, Collect, Common, Compact, Confirm, Convert, Count, Diff}
-use Rattle.command_line.specs.Requests.{Digest, Merge, Migrate, Minus, Prove, Read, Root, Select, Send, Serve, Show}
-use Rattle.command_line.specs.Requests.{SpillArchive, Union, Verify}
+use Rattle.command_line.specs.Requests.{Add, Archive, Asked, Check, Collect, Common, Compact, Confirm, Convert, Count}
+use Rattle.command_line.specs.Requests.{Diff, Digest, Expire, Merge, Migrate, Minus, Prove, Read, Root, Select, Send}
+use Rattle.command_line.specs.Requests.{Serve, Show, SpillArchive, Union, Verify}
 use Rattle.command_line.specs.declared.words.WordsFault.{WordsFault}
 use Rattle.command_line.specs.declared.words.WordsFault.TheVariants.{Usage, Memory as OutOfMemory}
 use Rattle.send_engine.specs.Sending.{RanSend}
@@ -124,6 +124,10 @@ RanAs (Verify dir) stored old new status =
     RanWithout (codes "store fault\n") old.output new.output old.diagnostics new.diagnostics status
 RanAs (Compact dir) stored old new status =
     RanWithout (codes "store fault\n") old.output new.output old.diagnostics new.diagnostics status
+RanAs (Add dir) stored old new status =
+    RanWithout (codes "store fault\n") old.output new.output old.diagnostics new.diagnostics status
+RanAs (Expire dir words) stored old new status =
+    RanWithout (codes "store fault\n") old.output new.output old.diagnostics new.diagnostics status
 RanAs (Collect words) stored old new status =
     RanWithout (codes "socket fault\n") old.output new.output old.diagnostics new.diagnostics status
 RanAs (Serve words) stored old new status =
@@ -152,6 +156,8 @@ ReadsInput (SpillArchive way framing dir memory) = ⊥
 ReadsInput (Read dir range) = ⊥
 ReadsInput (Verify dir) = ⊥
 ReadsInput (Compact dir) = ⊥
+ReadsInput (Add dir) = ⊥
+ReadsInput (Expire dir words) = ⊥
 ReadsInput (Collect words) = ⊥
 ReadsInput (Serve words) = ⊥
 

@@ -248,6 +248,8 @@ pub fn run_request<R: Input, W: Output, N: Output, F: Files>(
         Request::Read { .. } => report(diagnostics, b"store fault\n", FAULT),
         Request::Verify { .. } => report(diagnostics, b"store fault\n", FAULT),
         Request::Compact { .. } => report(diagnostics, b"store fault\n", FAULT),
+        Request::Add { .. } => report(diagnostics, b"store fault\n", FAULT),
+        Request::Expire { .. } => report(diagnostics, b"store fault\n", FAULT),
         Request::Collect { .. } => report(diagnostics, b"socket fault\n", FAULT),
         Request::Serve { .. } => report(diagnostics, b"socket fault\n", FAULT),
     }

@@ -18,8 +18,10 @@ use thiserror::Error;
 pub enum LockFile {
     /// `lock`: held by the process that writes.
     Writing,
-    /// `lock.compact`: held by the process that compacts, beside a writer.
+    /// `lock.compact`: held by the process that compacts or removes old records, beside a writer.
     Compaction,
+    /// `lock.add`: held by the process that adds an archive, beside a writer.
+    Addition,
 }
 
 impl LockFile {
@@ -30,6 +32,7 @@ impl LockFile {
         match self {
             LockFile::Writing => "lock",
             LockFile::Compaction => "lock.compact",
+            LockFile::Addition => "lock.add",
         }
     }
 }

@@ -1,10 +1,11 @@
-//! The table of options, and what the values of options say: numbers, times, and how frames are read.
+//! The tables of options and commands, and what the values of options say: numbers, times, and how frames are read.
 //!
 //! Each function reads values that `clap` has matched, as a function of the rows of a parse. A value
 //! that is refused is told with the option that does not take it.
 #![tactic(auto)]
 
 mod clock_values;
+pub mod commands;
 mod given;
 mod numbers;
 mod option_row;

@@ -118,6 +118,8 @@ pub enum Refusal<'a> {
     Missing,
     /// No option of `serve` names a listener.
     NoListener,
+    /// No option of `expire` says what is old.
+    NoBound,
     /// An option was given beside another that excludes it.
     Excluded {
         /// The option.
@@ -230,6 +232,9 @@ pub fn refusal_text(alloc: Global, refusal: Refusal<'_>) -> Result<String, Alloc
             alloc,
             "error: serve needs a listener: --udp, --counted, --lf, --unix or --inherited\n",
         ),
+        Refusal::NoBound => {
+            String::from_str(alloc, "error: expire needs a time: --before or --keep\n")
+        }
         Refusal::Excluded { option, other } => {
             let name = option.name;
             let other = other.name;

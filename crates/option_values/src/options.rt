@@ -1,10 +1,9 @@
-//! The table of options: one row for each option of a command, and for each value by its place; and one
-//! for each command, with its options in the order of its help.
+//! The table of options: one row for each option of a command, and for each value by its place.
 //!
-//! A row stands here once. From it come the parser and its help, the range that a reader tests, the text
+//! A row stands here once. From it and the table of commands come the parser and its help, the range that a reader tests, the text
 //! for a value that is refused, the completions and the lists of the manual (`scripts/options.py`).
 
-use crate::option_row::{CommandRow, Form, Kind, OptionRow};
+use crate::option_row::{Form, Kind, OptionRow};
 
 // ---- How frames are read.
 
@@ -488,7 +487,7 @@ pub const COUNT: OptionRow = OptionRow {
 
 // ---- Stores.
 
-/// `DIR` of read, verify and compact.
+/// `DIR` of the commands on a store that is there.
 pub const DIR: OptionRow = OptionRow {
     name: "DIR",
     form: Form::Positional,
@@ -497,13 +496,49 @@ pub const DIR: OptionRow = OptionRow {
     help: "Folder of a store",
 };
 
-/// `DIR` of `serve`.
-pub const SERVED_DIR: OptionRow = OptionRow {
+/// `DIR` of `serve` and `add`.
+pub const NEW_DIR: OptionRow = OptionRow {
     name: "DIR",
     form: Form::Positional,
     value: "dir",
     kind: Kind::Folder,
     help: "Folder of the store; it is made if it is missing",
+};
+
+/// `--before` of `expire`.
+pub const BEFORE: OptionRow = OptionRow {
+    name: "before",
+    form: Form::Single,
+    value: "time",
+    kind: Kind::Time,
+    help: "Remove the records before TIME, which is rounded down to the hour",
+};
+
+/// `--keep` of `expire`.
+pub const KEEP: OptionRow = OptionRow {
+    name: "keep",
+    form: Form::Single,
+    value: "days",
+    kind: Kind::Number(1, 36_500),
+    help: "Remove the records that are older than DAYS days, rounded down to the hour: 1 to 36500",
+};
+
+/// `--undated` of `expire`.
+pub const EXPIRE_UNDATED: OptionRow = OptionRow {
+    name: "undated",
+    form: Form::Flag,
+    value: "",
+    kind: Kind::Text,
+    help: "Remove the records without a time, too",
+};
+
+/// `--dry-run` of `expire`.
+pub const DRY_RUN: OptionRow = OptionRow {
+    name: "dry-run",
+    form: Form::Flag,
+    value: "",
+    kind: Kind::Text,
+    help: "Write the lines alone, and change nothing",
 };
 
 /// `--udp` of `serve`.
@@ -613,232 +648,3 @@ pub const UNTIL_EOF: OptionRow = OptionRow {
     kind: Kind::Text,
     help: "End when standard input ends",
 };
-
-// ---- The commands.
-
-/// `show`.
-pub const SHOW_COMMAND: CommandRow = CommandRow {
-    name: "show",
-    about: "Write the fields of each record",
-    options: &[FRAMING, TRIM, LEGACY, ZONE, DIALECT, JSON],
-};
-
-/// `check`.
-pub const CHECK_COMMAND: CommandRow = CommandRow {
-    name: "check",
-    about: "Say for each frame whether it is a record, and if not, where it stops being one",
-    options: &[FRAMING, TRIM, LEGACY, ZONE, DIALECT, SUMMARY],
-};
-
-/// `convert`.
-pub const CONVERT_COMMAND: CommandRow = CommandRow {
-    name: "convert",
-    about: "Write the canonical octets of each record",
-    options: &[FRAMING, TRIM, LEGACY, ZONE, DIALECT, OUTPUT_FRAMING],
-};
-
-/// `archive`.
-pub const ARCHIVE_COMMAND: CommandRow = CommandRow {
-    name: "archive",
-    about: "Write the records as an archive: each once, in its canonical form, in one order",
-    options: &[FRAMING, TRIM, LEGACY, ZONE, DIALECT, SPILL, MEMORY],
-};
-
-/// `merge`.
-pub const MERGE_COMMAND: CommandRow = CommandRow {
-    name: "merge",
-    about: "Write the archive of the records of two archives",
-    options: &[LEFT, RIGHT],
-};
-
-/// `migrate`.
-pub const MIGRATE_COMMAND: CommandRow = CommandRow {
-    name: "migrate",
-    about: "Write the archive of the records of an old one, whose elements are in the order in which they came",
-    options: &[OLD_FILE],
-};
-
-/// `union`.
-pub const UNION_COMMAND: CommandRow = CommandRow {
-    name: "union",
-    about: "Write the archive of the records of one or more archives",
-    options: &[FILES],
-};
-
-/// `common`.
-pub const COMMON_COMMAND: CommandRow = CommandRow {
-    name: "common",
-    about: "Write the archive of the records that two archives both have",
-    options: &[LEFT, RIGHT],
-};
-
-/// `minus`.
-pub const MINUS_COMMAND: CommandRow = CommandRow {
-    name: "minus",
-    about: "Write the archive of the records of one archive that another lacks",
-    options: &[LEFT, RIGHT],
-};
-
-/// `diff`.
-pub const DIFF_COMMAND: CommandRow = CommandRow {
-    name: "diff",
-    about: "Write a line for each record that only one of two archives has",
-    options: &[LEFT, RIGHT],
-};
-
-/// `select`.
-pub const SELECT_COMMAND: CommandRow = CommandRow {
-    name: "select",
-    about: "Write the archive of the records of an archive that meet all conditions",
-    options: &[
-        FROM,
-        UNTIL,
-        UNDATED,
-        ONLY_UNDATED,
-        SEVERITY,
-        FACILITY,
-        HOST,
-        APP,
-        PROC,
-        MSGID,
-        ID,
-        RECORD_MESSAGE,
-        HOST_LIKE,
-        APP_LIKE,
-        NOT_HOST,
-        NOT_APP,
-        NOT_MESSAGE,
-    ],
-};
-
-/// `digest`.
-pub const DIGEST_COMMAND: CommandRow = CommandRow {
-    name: "digest",
-    about: "Write a line for each period of an archive: its records, octets and SHA-256",
-    options: &[PERIOD],
-};
-
-/// `count`.
-pub const COUNT_COMMAND: CommandRow = CommandRow {
-    name: "count",
-    about: "Write how many records of an archive have each value of some fields or times",
-    options: &[KEYS, TOP, COUNTS_JSON, BARS],
-};
-
-/// `root`.
-pub const ROOT_COMMAND: CommandRow = CommandRow {
-    name: "root",
-    about: "Write how many records an archive has, and their Merkle tree hash (RFC 9162)",
-    options: &[],
-};
-
-/// `prove`.
-pub const PROVE_COMMAND: CommandRow = CommandRow {
-    name: "prove",
-    about: "Write proofs that an archive has each of some records, or that it has not",
-    options: &[RECORDS],
-};
-
-/// `confirm`.
-pub const CONFIRM_COMMAND: CommandRow = CommandRow {
-    name: "confirm",
-    about: "Say what proofs show of some records, without their archive",
-    options: &[HEAD_SIZE, HEAD_HASH, RECORDS],
-};
-
-/// `read`.
-pub const READ_COMMAND: CommandRow = CommandRow {
-    name: "read",
-    about: "Write the archive of the records that a store holds",
-    options: &[DIR, FROM, UNTIL, UNDATED],
-};
-
-/// `verify`.
-pub const VERIFY_COMMAND: CommandRow = CommandRow {
-    name: "verify",
-    about: "Read a whole store and write a line for each damaged file",
-    options: &[DIR],
-};
-
-/// `compact`.
-pub const COMPACT_COMMAND: CommandRow = CommandRow {
-    name: "compact",
-    about: "Join the segments of each day of a store that has more than eight",
-    options: &[DIR],
-};
-
-/// `send`.
-pub const SEND_COMMAND: CommandRow = CommandRow {
-    name: "send",
-    about: "Write one record as a frame",
-    options: &[
-        SENT_FACILITY,
-        SENT_SEVERITY,
-        UP_TO,
-        SENT_FRAMING,
-        SENT_HOST,
-        SENT_APP,
-        SENT_PROC,
-        SENT_MSGID,
-        MICROS,
-        MESSAGE,
-    ],
-};
-
-/// `collect`.
-pub const COLLECT_COMMAND: CommandRow = CommandRow {
-    name: "collect",
-    about: "Receive records on 127.0.0.1 and write them as an archive",
-    options: &[TRANSPORT, PORT, COUNT, TRIM, LEGACY, ZONE, DIALECT],
-};
-
-/// `serve`.
-pub const SERVE_COMMAND: CommandRow = CommandRow {
-    name: "serve",
-    about: "Receive records from sockets into a store, until it is stopped",
-    options: &[
-        SERVED_DIR,
-        UDP,
-        COUNTED,
-        LF,
-        UNIX,
-        INHERITED,
-        ALLOW,
-        CONNECTIONS,
-        PER_PEER,
-        IDLE,
-        COMMIT,
-        CHECKPOINT,
-        UNTIL_EOF,
-        TRIM,
-        LEGACY,
-        ZONE,
-        DIALECT,
-    ],
-};
-
-/// The commands, in the order of the help.
-pub const COMMANDS: [CommandRow; 22] = [
-    SHOW_COMMAND,
-    CHECK_COMMAND,
-    CONVERT_COMMAND,
-    ARCHIVE_COMMAND,
-    MERGE_COMMAND,
-    MIGRATE_COMMAND,
-    UNION_COMMAND,
-    COMMON_COMMAND,
-    MINUS_COMMAND,
-    DIFF_COMMAND,
-    SELECT_COMMAND,
-    DIGEST_COMMAND,
-    COUNT_COMMAND,
-    ROOT_COMMAND,
-    PROVE_COMMAND,
-    CONFIRM_COMMAND,
-    READ_COMMAND,
-    VERIFY_COMMAND,
-    COMPACT_COMMAND,
-    SEND_COMMAND,
-    COLLECT_COMMAND,
-    SERVE_COMMAND,
-];

@@ -142,6 +142,8 @@ fn other_words_are_a_usage_fault(rt: HostRuntime) -> Result<(), Fail> {
         &["read", "d", "--to", "-"],
         &["verify"],
         &["compact"],
+        &["add"],
+        &["expire", "d"],
         &["serve", "d"],
     ];
     usage_faults(&rt, HELLO, &rows)
@@ -149,11 +151,13 @@ fn other_words_are_a_usage_fault(rt: HostRuntime) -> Result<(), Fail> {
 
 #[test]
 fn what_only_a_program_has_is_a_fault(rt: HostRuntime) -> Result<(), Fail> {
-    let rows: [(&[&str], &[u8]); 6] = [
+    let rows: [(&[&str], &[u8]); 8] = [
         (&["archive", "--spill", "d"], b"spill fault\n"),
         (&["read", "d"], b"store fault\n"),
         (&["verify", "d"], b"store fault\n"),
         (&["compact", "d"], b"store fault\n"),
+        (&["add", "d"], b"store fault\n"),
+        (&["expire", "d", "--keep", "90"], b"store fault\n"),
         (&["collect", "udp", "514", "1"], b"socket fault\n"),
         (&["serve", "d", "--unix", "s"], b"socket fault\n"),
     ];

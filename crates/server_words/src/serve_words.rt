@@ -9,7 +9,7 @@ use crate::listeners::{ListenerWords, listeners};
 use crate::networks::networks;
 use clap::ArgMatches;
 use option_values::options::{
-    CHECKPOINT, COMMIT, CONNECTIONS, IDLE, PER_PEER, SERVED_DIR, UNTIL_EOF,
+    CHECKPOINT, COMMIT, CONNECTIONS, IDLE, NEW_DIR, PER_PEER, UNTIL_EOF,
 };
 use option_values::{Refusal, is_given, number, optional_number, reading_of_matches, value};
 use peer_rules::Network;
@@ -97,7 +97,7 @@ pub fn read_serve_words<'a>(
     ensures { IfOk result (λ r.
         option_map serve_asked (result_ok r) ≡ serve_in (rows_of (found_of matches.now))) }
 {
-    let Some(dir) = value(matches, SERVED_DIR.name) else {
+    let Some(dir) = value(matches, NEW_DIR.name) else {
         return Ok(Err(Refusal::Missing));
     };
     let listeners = match listeners(alloc, matches)? {

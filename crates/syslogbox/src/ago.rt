@@ -6,10 +6,10 @@ use syslog_grammar::canonical_timestamp;
 use syslog_value::Instant;
 
 // The commands that take times.
-const COMMANDS: [&str; 2] = ["select", "read"];
+const COMMANDS: [&str; 3] = ["select", "read", "expire"];
 
 // The options that take them.
-const OPTIONS: [&str; 2] = ["--from", "--to"];
+const OPTIONS: [&str; 3] = ["--from", "--to", "--before"];
 
 // So many of a unit at most.
 const NUMBER_MAX: u64 = 1_000_000;
@@ -51,6 +51,12 @@ fn now_micros(rt: &HostRuntime) -> Option<i64> {
     i64::try_from(since.as_micros()).ok()
 }
 
+/// The time so many days ago, if the system's clock tells it.
+pub fn days_ago(rt: &HostRuntime, days: u32) -> Option<Instant> {
+    let ago = i64::from(days).saturating_mul(86_400_000_000);
+    Instant::from_micros(now_micros(rt)?.saturating_sub(ago))
+}
+
 // The canonical timestamp of the time that a word names so, if it does.
 fn told_time(now: i64, word: &str) -> Option<[u8; 27]> {
     let ago = i64::try_from(micros_ago(word)?).ok()?;
@@ -90,8 +96,46 @@ fn told_word(
     Ok(Some(told))
 }
 
-/// The words with timestamps in place of `-30m` and the like behind `--from` and `--to`, counted back from
-/// now, where the command takes times. Words behind `--` stay as they are.
+// Whether a word begins with a dash and a digit behind an option that takes a time: the parser would take
+// it for an option.
+fn is_dashed_value(word: &str, before: Option<&str>) -> bool {
+    match (word.as_bytes(), before) {
+        ([b'-', b'0'..=b'9', ..], Some(name)) => OPTIONS.contains(&name),
+        _ => false,
+    }
+}
+
+// Puts a word behind those before it, with a timestamp in place of how long ago it names. A value that
+// the parser would take for an option is joined with its option.
+fn push_told(
+    alloc: Global,
+    now: i64,
+    told: &mut Vec<String>,
+    word: String,
+) -> Result<(), AllocError> {
+    let before = told.last().map(|word| word.as_str());
+    if let Some(time) = told_word(alloc, now, word.as_str(), before)? {
+        told.push(time)?;
+        return Ok(());
+    }
+    let joined = match before {
+        Some(name) if is_dashed_value(word.as_str(), before) => {
+            Some(format!(in alloc; "{name}={word}")?)
+        }
+        _ => None,
+    };
+    match joined {
+        Some(joined) => {
+            let _ = told.pop();
+            told.push(joined)?;
+        }
+        None => told.push(word)?,
+    }
+    Ok(())
+}
+
+/// The words with timestamps in place of `-30m` and the like behind options that take a time, counted back
+/// from now, where the command takes times. Words behind `--` stay as they are.
 pub fn with_times(
     rt: &HostRuntime,
     alloc: Global,
@@ -106,16 +150,15 @@ pub fn with_times(
     if !takes_times {
         return Ok(words);
     }
-    let mut words = words;
-    let options = words
-        .iter()
-        .position(|word| word.as_str() == "--")
-        .unwrap_or(words.len());
-    for at in 1..options {
-        let before = words[at - 1].as_str();
-        if let Some(told) = told_word(alloc, now, words[at].as_str(), Some(before))? {
-            words[at] = told;
+    let mut told = Vec::new(alloc);
+    let mut are_options = true;
+    for word in words {
+        are_options = are_options && word.as_str() != "--";
+        if are_options {
+            push_told(alloc, now, &mut told, word)?;
+        } else {
+            told.push(word)?;
         }
     }
-    Ok(words)
+    Ok(told)
 }

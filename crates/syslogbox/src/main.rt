@@ -1,6 +1,7 @@
 //! Reads syslog records and writes them in their one canonical form.
 #![tactic(auto)]
 
+mod adding;
 mod ago;
 mod collect;
 mod columns;
@@ -87,6 +88,52 @@ fn on_files(
     }
 }
 
+// Runs a request, and returns the exit status.
+fn run(
+    rt: &HostRuntime,
+    request: Request<'_>,
+    output: &mut ToWrite<Stdout>,
+    diagnostics: &mut ToWrite<Stderr>,
+) -> u8 {
+    let alloc = rt.alloc();
+    match request {
+        Request::Collect { words } => {
+            if !can_be_written(rt) {
+                return report(diagnostics, b"write fault\n", FAULT);
+            }
+            collect::collect(rt, alloc, &words, output, diagnostics)
+        }
+        Request::Serve { words } => serve::serve(rt, &words),
+        Request::Read { dir, range } => {
+            let mut diagnostics = ToWrite::new(QuietErrors::new(rt));
+            stores::read(rt, alloc, dir, range, output, &mut diagnostics)
+        }
+        Request::Verify { dir } => stores::verify(rt, alloc, dir, output, diagnostics),
+        Request::Compact { dir } => stores::compact(rt, alloc, dir, diagnostics),
+        Request::Expire { dir, words } => {
+            stores::expire(rt, alloc, dir, words, output, diagnostics)
+        }
+        Request::Add { dir } => adding::add(rt, alloc, dir, diagnostics),
+        Request::SpillArchive {
+            input_framing,
+            reading,
+            dir,
+            memory_mib,
+        } => spill::archive(
+            rt,
+            alloc,
+            input_framing,
+            reading,
+            &spill::Room { dir, memory_mib },
+        ),
+        Request::Count { options } => {
+            let options = columns::fitted(rt, options);
+            on_files(rt, Request::Count { options }, output, diagnostics)
+        }
+        request => on_files(rt, request, output, diagnostics),
+    }
+}
+
 fn main(rt: HostRuntime) -> ExitCode {
     let mut diagnostics = ToWrite::new(rt.stderr());
     if occupy_closed_descriptors(&rt).is_err() {
@@ -105,42 +152,7 @@ fn main(rt: HostRuntime) -> ExitCode {
     };
     let mut output = ToWrite::new(rt.stdout());
     let status = match read_words(rt.alloc(), args.as_slice()) {
-        Ok(Request::Collect { words }) => {
-            if !can_be_written(&rt) {
-                return ExitCode::from(report(&mut diagnostics, b"write fault\n", FAULT));
-            }
-            collect::collect(&rt, rt.alloc(), &words, &mut output, &mut diagnostics)
-        }
-        Ok(Request::Serve { words }) => serve::serve(&rt, &words),
-        Ok(Request::Read { dir, range }) => {
-            let mut diagnostics = ToWrite::new(QuietErrors::new(&rt));
-            stores::read(&rt, rt.alloc(), dir, range, &mut output, &mut diagnostics)
-        }
-        Ok(Request::Verify { dir }) => {
-            stores::verify(&rt, rt.alloc(), dir, &mut output, &mut diagnostics)
-        }
-        Ok(Request::Compact { dir }) => stores::compact(&rt, rt.alloc(), dir, &mut diagnostics),
-        Ok(
-            Request::SpillArchive {
-                input_framing,
-                reading,
-                dir,
-                memory_mib,
-            },
-        ) => {
-            let room = spill::Room { dir, memory_mib };
-            spill::archive(&rt, rt.alloc(), input_framing, reading, &room)
-        }
-        Ok(Request::Count { options }) => {
-            let options = columns::fitted(&rt, options);
-            on_files(
-                &rt,
-                Request::Count { options },
-                &mut output,
-                &mut diagnostics,
-            )
-        }
-        Ok(request) => on_files(&rt, request, &mut output, &mut diagnostics),
+        Ok(request) => run(&rt, request, &mut output, &mut diagnostics),
         Err(fault) => report_words_fault(&fault, &mut diagnostics),
     };
     ExitCode::from(status)

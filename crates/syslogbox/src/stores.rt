@@ -1,6 +1,8 @@
-//! `read`, `verify` and `compact`, over a folder of the system.
+//! `read`, `verify`, `compact` and `expire`, over a folder of the system.
 
+use crate::ago::days_ago;
 use archive_sets::InRange;
+use command_line::{ExpireBound, ExpireWords};
 use disk::DiskFault;
 use driver::{DONE, FAULT, NO_MEMORY, report};
 use folder_disk::{FileError, FolderLock, LockFault, LockFile};
@@ -12,8 +14,10 @@ use store_engine::{
     SystemDisk, SystemFolder, read_store, report_damaged_file, report_file_error, report_no_store,
     report_read_fault, verify_store,
 };
+use store_expiry::{ExpireFault, Expired};
 use store_reading::ReadFault;
 use store_upkeep::{CompactFault, DamagedFile};
+use syslog_value::Instant;
 
 // Reports the error by which a call on the folder or a file failed, behind the line on the fault that it
 // is. Returns the exit status.
@@ -95,8 +99,8 @@ fn report_disk_fault<N: Output>(
     }
 }
 
-// Reports why a store was not compacted, and returns the exit status.
-fn report_compact_fault<N: Output>(
+// Reports why the files of a store were not all changed as they were to be, and returns the exit status.
+fn report_change_fault<N: Output>(
     alloc: Global,
     disk: &SystemDisk<HostRuntime>,
     dir: &str,
@@ -121,15 +125,39 @@ fn report_compact_fault<N: Output>(
     }
 }
 
-// Reports why a store may not be compacted now, and returns the exit status.
-fn report_lock_fault<N: Output>(alloc: Global, fault: LockFault, diagnostics: &mut N) -> u8 {
-    let what = LockFile::Compaction.name();
+/// Reports why the lock of a file was not taken, and returns the exit status.
+pub fn report_lock_fault<N: Output>(
+    alloc: Global,
+    lock: LockFile,
+    fault: LockFault,
+    diagnostics: &mut N,
+) -> u8 {
+    let what = lock.name();
+    let held = match lock {
+        LockFile::Compaction => "the store is being compacted",
+        LockFile::Writing | LockFile::Addition => "another process adds to the store",
+    };
     match fault {
-        LockFault::Held => report_why(alloc, what, "the store is being compacted", diagnostics),
+        LockFault::Held => report_why(alloc, what, held, diagnostics),
         LockFault::Failed(error) if error.kind() == ErrorKind::OutOfMemory => {
             report(diagnostics, b"want of memory\n", NO_MEMORY)
         }
         LockFault::Failed(error) => report_why(alloc, what, error.error, diagnostics),
+    }
+}
+
+// Takes the lock of whoever joins or removes segments, or reports why it is not taken, and gives the exit
+// status.
+fn lock_segments<N: Output>(
+    rt: &HostRuntime,
+    alloc: Global,
+    dir: &str,
+    diagnostics: &mut N,
+) -> Result<FolderLock, u8> {
+    let lock = LockFile::Compaction;
+    match FolderLock::take(rt, dir, lock) {
+        Ok(taken) => Ok(taken),
+        Err(fault) => Err(report_lock_fault(alloc, lock, fault, diagnostics)),
     }
 }
 
@@ -140,12 +168,55 @@ pub fn compact<N: Output>(rt: &HostRuntime, alloc: Global, dir: &str, diagnostic
         Ok(disk) => disk,
         Err(error) => return report_no_store(alloc, dir, &error, diagnostics),
     };
-    let _lock = match FolderLock::take(rt, dir, LockFile::Compaction) {
+    let _lock = match lock_segments(rt, alloc, dir, diagnostics) {
         Ok(lock) => lock,
-        Err(fault) => return report_lock_fault(alloc, fault, diagnostics),
+        Err(status) => return status,
     };
     match store_upkeep::compact(alloc, &mut disk) {
         Ok(()) => DONE,
-        Err(fault) => report_compact_fault(alloc, &disk, dir, fault, diagnostics),
+        Err(fault) => report_change_fault(alloc, &disk, dir, fault, diagnostics),
+    }
+}
+
+// The time up to which records are removed; `None` where the system's clock does not tell it.
+fn time_of(rt: &HostRuntime, bound: ExpireBound) -> Option<Instant> {
+    match bound {
+        ExpireBound::Before(time) => Some(time),
+        ExpireBound::Keep { days } => days_ago(rt, days),
+    }
+}
+
+/// Removes old records of a store, and writes a line for each file that goes. Returns the exit status: 0
+/// where no segment has an old record then, 1 where one is damaged.
+pub fn expire<W: Output, N: Output>(
+    rt: &HostRuntime,
+    alloc: Global,
+    dir: &str,
+    words: ExpireWords,
+    output: &mut W,
+    diagnostics: &mut N,
+) -> u8 {
+    let Some(time) = time_of(rt, words.bound) else {
+        return report(diagnostics, b"the system's clock is not within the years 0 to 9999\n", FAULT);
+    };
+    let expired = Expired::before(time, words.undated);
+    let mut disk = match SystemDisk::open(rt, dir) {
+        Ok(disk) => disk,
+        Err(error) => return report_no_store(alloc, dir, &error, diagnostics),
+    };
+    let _lock = if words.dry_run {
+        None
+    } else {
+        match lock_segments(rt, alloc, dir, diagnostics) {
+            Ok(lock) => Some(lock),
+            Err(status) => return status,
+        }
+    };
+    match store_expiry::expire(alloc, &mut disk, &expired, words.dry_run, output) {
+        Ok(()) => DONE,
+        Err(ExpireFault::Output) => report(diagnostics, b"write fault\n", FAULT),
+        Err(ExpireFault::Store(fault)) => {
+            report_change_fault(alloc, &disk, dir, fault, diagnostics)
+        }
     }
 }

@@ -2,7 +2,7 @@
 
 use crate::words::{asked, refuses_all};
 use archive_sets::InRange;
-use command_line::Request;
+use command_line::{ExpireBound, ExpireWords, Request};
 use std::test::Fail;
 use syslog_value::Instant;
 
@@ -75,6 +75,57 @@ fn a_store_is_verified(rt: HostRuntime) -> Result<(), Fail> {
             &["verify"],
             &["verify", "d", "e"],
             &["verify", "d", "--undated"],
+        ],
+    )
+}
+
+#[test]
+fn records_are_added(rt: HostRuntime) -> Result<(), Fail> {
+    let asked = asked(&rt, &["add", "d"]);
+    assert!(rt; matches!(asked, Ok(Request::Add { dir: "d" })));
+    refuses_all(&rt, &[&["add"], &["add", "d", "e"], &["add", "d", "--undated"]])
+}
+
+// whether `expire` with these words takes the folder `d` and this
+fn expires(rt: &HostRuntime, words: &[&str], asked_for: &ExpireWords) -> bool {
+    match &asked(rt, words) {
+        Ok(Request::Expire { dir, words }) => *dir == "d" && words == asked_for,
+        _ => false,
+    }
+}
+
+#[test]
+fn old_records_are_removed(rt: HostRuntime) -> Result<(), Fail> {
+    let Some(then) = Instant::from_micros(1_795_600_800_000_000) else {
+        return Ok(());
+    };
+    let before = ExpireWords {
+        bound: ExpireBound::Before(then),
+        undated: false,
+        dry_run: false,
+    };
+    let keep = ExpireWords {
+        bound: ExpireBound::Keep { days: 90 },
+        undated: true,
+        dry_run: true,
+    };
+    let rows: [(&[&str], ExpireWords); 2] = [
+        (&["expire", "d", "--before", "2026-11-25T10:00:00Z"], before),
+        (&["expire", "--undated", "--keep=90", "--dry-run", "d"], keep),
+    ];
+    for (words, asked_for) in rows {
+        assert!(rt; expires(&rt, words, &asked_for), "{words:?}");
+    }
+    refuses_all(
+        &rt,
+        &[
+            &["expire"],
+            &["expire", "d"],
+            &["expire", "d", "--keep", "0"],
+            &["expire", "d", "--keep", "36501"],
+            &["expire", "d", "--before", "-"],
+            &["expire", "d", "--before", "2026-11-25", "--keep", "90"],
+            &["expire", "d", "--keep", "90", "--keep", "91"],
         ],
     )
 }

@@ -1,0 +1,256 @@
+//! The table of commands: one row for each, with its options in the order of its help.
+
+use crate::option_row::CommandRow;
+use crate::options::{
+    ALLOW, APP, APP_LIKE, BARS, BEFORE, CHECKPOINT, COMMIT, CONNECTIONS, COUNT, COUNTED,
+    COUNTS_JSON, DIALECT, DIR, DRY_RUN, EXPIRE_UNDATED, FACILITY, FILES, FRAMING, FROM,
+    HEAD_HASH, HEAD_SIZE, HOST, HOST_LIKE, ID, IDLE, INHERITED, JSON, KEEP, KEYS, LEFT, LEGACY,
+    LF, MEMORY, MESSAGE, MICROS, MSGID, NEW_DIR, NOT_APP, NOT_HOST, NOT_MESSAGE, OLD_FILE,
+    ONLY_UNDATED, OUTPUT_FRAMING, PERIOD, PER_PEER, PORT, PROC, RECORDS, RECORD_MESSAGE, RIGHT,
+    SENT_APP, SENT_FACILITY, SENT_FRAMING, SENT_HOST, SENT_MSGID, SENT_PROC, SENT_SEVERITY,
+    SEVERITY, SPILL, SUMMARY, TOP, TRANSPORT, TRIM, UDP, UNDATED, UNIX, UNTIL, UNTIL_EOF, UP_TO,
+    ZONE,
+};
+
+/// `show`.
+pub const SHOW_COMMAND: CommandRow = CommandRow {
+    name: "show",
+    about: "Write the fields of each record",
+    options: &[FRAMING, TRIM, LEGACY, ZONE, DIALECT, JSON],
+};
+
+/// `check`.
+pub const CHECK_COMMAND: CommandRow = CommandRow {
+    name: "check",
+    about: "Say for each frame whether it is a record, and if not, where it stops being one",
+    options: &[FRAMING, TRIM, LEGACY, ZONE, DIALECT, SUMMARY],
+};
+
+/// `convert`.
+pub const CONVERT_COMMAND: CommandRow = CommandRow {
+    name: "convert",
+    about: "Write the canonical octets of each record",
+    options: &[FRAMING, TRIM, LEGACY, ZONE, DIALECT, OUTPUT_FRAMING],
+};
+
+/// `archive`.
+pub const ARCHIVE_COMMAND: CommandRow = CommandRow {
+    name: "archive",
+    about: "Write the records as an archive: each once, in its canonical form, in one order",
+    options: &[FRAMING, TRIM, LEGACY, ZONE, DIALECT, SPILL, MEMORY],
+};
+
+/// `merge`.
+pub const MERGE_COMMAND: CommandRow = CommandRow {
+    name: "merge",
+    about: "Write the archive of the records of two archives",
+    options: &[LEFT, RIGHT],
+};
+
+/// `migrate`.
+pub const MIGRATE_COMMAND: CommandRow = CommandRow {
+    name: "migrate",
+    about: "Write the archive of the records of an old one, whose elements are in the order in which they came",
+    options: &[OLD_FILE],
+};
+
+/// `union`.
+pub const UNION_COMMAND: CommandRow = CommandRow {
+    name: "union",
+    about: "Write the archive of the records of one or more archives",
+    options: &[FILES],
+};
+
+/// `common`.
+pub const COMMON_COMMAND: CommandRow = CommandRow {
+    name: "common",
+    about: "Write the archive of the records that two archives both have",
+    options: &[LEFT, RIGHT],
+};
+
+/// `minus`.
+pub const MINUS_COMMAND: CommandRow = CommandRow {
+    name: "minus",
+    about: "Write the archive of the records of one archive that another lacks",
+    options: &[LEFT, RIGHT],
+};
+
+/// `diff`.
+pub const DIFF_COMMAND: CommandRow = CommandRow {
+    name: "diff",
+    about: "Write a line for each record that only one of two archives has",
+    options: &[LEFT, RIGHT],
+};
+
+/// `select`.
+pub const SELECT_COMMAND: CommandRow = CommandRow {
+    name: "select",
+    about: "Write the archive of the records of an archive that meet all conditions",
+    options: &[
+        FROM,
+        UNTIL,
+        UNDATED,
+        ONLY_UNDATED,
+        SEVERITY,
+        FACILITY,
+        HOST,
+        APP,
+        PROC,
+        MSGID,
+        ID,
+        RECORD_MESSAGE,
+        HOST_LIKE,
+        APP_LIKE,
+        NOT_HOST,
+        NOT_APP,
+        NOT_MESSAGE,
+    ],
+};
+
+/// `digest`.
+pub const DIGEST_COMMAND: CommandRow = CommandRow {
+    name: "digest",
+    about: "Write a line for each period of an archive: its records, octets and SHA-256",
+    options: &[PERIOD],
+};
+
+/// `count`.
+pub const COUNT_COMMAND: CommandRow = CommandRow {
+    name: "count",
+    about: "Write how many records of an archive have each value of some fields or times",
+    options: &[KEYS, TOP, COUNTS_JSON, BARS],
+};
+
+/// `root`.
+pub const ROOT_COMMAND: CommandRow = CommandRow {
+    name: "root",
+    about: "Write how many records an archive has, and their Merkle tree hash (RFC 9162)",
+    options: &[],
+};
+
+/// `prove`.
+pub const PROVE_COMMAND: CommandRow = CommandRow {
+    name: "prove",
+    about: "Write proofs that an archive has each of some records, or that it has not",
+    options: &[RECORDS],
+};
+
+/// `confirm`.
+pub const CONFIRM_COMMAND: CommandRow = CommandRow {
+    name: "confirm",
+    about: "Say what proofs show of some records, without their archive",
+    options: &[HEAD_SIZE, HEAD_HASH, RECORDS],
+};
+
+/// `read`.
+pub const READ_COMMAND: CommandRow = CommandRow {
+    name: "read",
+    about: "Write the archive of the records that a store holds",
+    options: &[DIR, FROM, UNTIL, UNDATED],
+};
+
+/// `verify`.
+pub const VERIFY_COMMAND: CommandRow = CommandRow {
+    name: "verify",
+    about: "Read a whole store and write a line for each damaged file",
+    options: &[DIR],
+};
+
+/// `compact`.
+pub const COMPACT_COMMAND: CommandRow = CommandRow {
+    name: "compact",
+    about: "Join the segments of each day of a store that has more than eight",
+    options: &[DIR],
+};
+
+/// `add`.
+pub const ADD_COMMAND: CommandRow = CommandRow {
+    name: "add",
+    about: "Put the records of an archive into a store",
+    options: &[NEW_DIR],
+};
+
+/// `expire`.
+pub const EXPIRE_COMMAND: CommandRow = CommandRow {
+    name: "expire",
+    about: "Remove old records from a store, and write a line for each file that goes",
+    options: &[DIR, BEFORE, KEEP, EXPIRE_UNDATED, DRY_RUN],
+};
+
+/// `send`.
+pub const SEND_COMMAND: CommandRow = CommandRow {
+    name: "send",
+    about: "Write one record as a frame",
+    options: &[
+        SENT_FACILITY,
+        SENT_SEVERITY,
+        UP_TO,
+        SENT_FRAMING,
+        SENT_HOST,
+        SENT_APP,
+        SENT_PROC,
+        SENT_MSGID,
+        MICROS,
+        MESSAGE,
+    ],
+};
+
+/// `collect`.
+pub const COLLECT_COMMAND: CommandRow = CommandRow {
+    name: "collect",
+    about: "Receive records on 127.0.0.1 and write them as an archive",
+    options: &[TRANSPORT, PORT, COUNT, TRIM, LEGACY, ZONE, DIALECT],
+};
+
+/// `serve`.
+pub const SERVE_COMMAND: CommandRow = CommandRow {
+    name: "serve",
+    about: "Receive records from sockets into a store, until it is stopped",
+    options: &[
+        NEW_DIR,
+        UDP,
+        COUNTED,
+        LF,
+        UNIX,
+        INHERITED,
+        ALLOW,
+        CONNECTIONS,
+        PER_PEER,
+        IDLE,
+        COMMIT,
+        CHECKPOINT,
+        UNTIL_EOF,
+        TRIM,
+        LEGACY,
+        ZONE,
+        DIALECT,
+    ],
+};
+
+/// The commands, in the order of the help.
+pub const COMMANDS: [CommandRow; 24] = [
+    SHOW_COMMAND,
+    CHECK_COMMAND,
+    CONVERT_COMMAND,
+    ARCHIVE_COMMAND,
+    MERGE_COMMAND,
+    MIGRATE_COMMAND,
+    UNION_COMMAND,
+    COMMON_COMMAND,
+    MINUS_COMMAND,
+    DIFF_COMMAND,
+    SELECT_COMMAND,
+    DIGEST_COMMAND,
+    COUNT_COMMAND,
+    ROOT_COMMAND,
+    PROVE_COMMAND,
+    CONFIRM_COMMAND,
+    READ_COMMAND,
+    VERIFY_COMMAND,
+    COMPACT_COMMAND,
+    ADD_COMMAND,
+    EXPIRE_COMMAND,
+    SEND_COMMAND,
+    COLLECT_COMMAND,
+    SERVE_COMMAND,
+];
