@@ -1,5 +1,6 @@
 -- Rows of places, and buckets that are put in front.
-use Rattle.std.proofs.Common.{◌≡◌, ◌⊎◌, ℕ, zero, suc, ◌-◌, ◌≤◌, List, [], ◌∷◌, cond, eqb, length, ◌<◌, inl, inr, ap, refl, sym, ◌∙◌, arith, take, drop, get_or, ◌++◌, set, replicate}
+use Rattle.std.proofs.Common.{◌≡◌, ◌⊎◌, ℕ, zero, suc, ◌-◌, ◌≤◌, List, [], ◌∷◌, cond, eqb, length}
+use Rattle.std.proofs.Common.{◌<◌, inl, inr, ap, refl, sym, ◌∙◌, arith, take, drop, get_or, ◌++◌, set, replicate}
 use Rattle.std.proofs.lemmas.List.{append-nil, drop_all, set_split, take_all}
 use Rattle.std.proofs.Math.Seq.{drop-cons}
 use Rattle.std.proofs.lemmas.Bool.{cases_eq, eq-eqb, ne_eqb}

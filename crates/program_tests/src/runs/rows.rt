@@ -199,7 +199,8 @@ fn the_fields_of_a_record_are_shown(rt: HostRuntime) -> Result<(), Fail> {
         ),
         (
             b"<34>1 2003-10-11T22:14:15.003Z h su 7 ID [b][a c=\"\\\"\" c=\"~ \"] \xef\xbb\xbf\xc3\xa9\n",
-            b"record 1\npriority 34 auth crit\ntime 2003-10-11T22:14:15.003000Z\nhost h\napp su\nproc 7\nmsgid ID\nelement a\nparam c \"\\x22\"\nparam c \"~ \"\nelement b\nmessage utf8 \"\\xc3\\xa9\\x0a\"\n",
+            b"record 1\npriority 34 auth crit\ntime 2003-10-11T22:14:15.003000Z\nhost h\napp su\nproc 7\n\
+            msgid ID\nelement a\nparam c \"\\x22\"\nparam c \"~ \"\nelement b\nmessage utf8 \"\\xc3\\xa9\\x0a\"\n",
         ),
     ];
     let show: &[&str] = &["show"];
