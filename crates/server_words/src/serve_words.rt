@@ -8,9 +8,7 @@ ghost use Rattle.server_words.specs.Serves.{options_in, per_peer_of, serve_asked
 use crate::listeners::{ListenerWords, listeners};
 use crate::networks::networks;
 use clap::ArgMatches;
-use option_values::options::{
-    CHECKPOINT, COMMIT, CONNECTIONS, IDLE, NEW_DIR, PER_PEER, UNTIL_EOF,
-};
+use option_values::options::{CHECKPOINT, COMMIT, CONNECTIONS, IDLE, NEW_DIR, PER_PEER, UNTIL_EOF};
 use option_values::{Refusal, is_given, number, optional_number, reading_of_matches, value};
 use peer_rules::Network;
 use std::alloc::{AllocError, Global};

@@ -43,12 +43,7 @@ fn added_line(alloc: Global, added: &Addition) -> Result<Vec<u8>, AllocError>
 }
 
 // Reports how much of an archive is on the disk, and returns this status, or that of want of memory.
-fn report_added<N: Output>(
-    alloc: Global,
-    added: &Addition,
-    status: u8,
-    diagnostics: &mut N,
-) -> u8
+fn report_added<N: Output>(alloc: Global, added: &Addition, status: u8, diagnostics: &mut N) -> u8
     ensures { TellsAdded added.now status (N.state diagnostics.old) (N.state diagnostics.new) result }
 {
     match added_line(alloc, added) {

@@ -197,7 +197,11 @@ pub fn expire<W: Output, N: Output>(
     diagnostics: &mut N,
 ) -> u8 {
     let Some(time) = time_of(rt, words.bound) else {
-        return report(diagnostics, b"the system's clock is not within the years 0 to 9999\n", FAULT);
+        return report(
+            diagnostics,
+            b"the system's clock is not within the years 0 to 9999\n",
+            FAULT,
+        );
     };
     let expired = Expired::before(time, words.undated);
     let mut disk = match SystemDisk::open(rt, dir) {

@@ -83,7 +83,10 @@ fn a_store_is_verified(rt: HostRuntime) -> Result<(), Fail> {
 fn records_are_added(rt: HostRuntime) -> Result<(), Fail> {
     let asked = asked(&rt, &["add", "d"]);
     assert!(rt; matches!(asked, Ok(Request::Add { dir: "d" })));
-    refuses_all(&rt, &[&["add"], &["add", "d", "e"], &["add", "d", "--undated"]])
+    refuses_all(
+        &rt,
+        &[&["add"], &["add", "d", "e"], &["add", "d", "--undated"]],
+    )
 }
 
 // whether `expire` with these words takes the folder `d` and this
@@ -111,7 +114,10 @@ fn old_records_are_removed(rt: HostRuntime) -> Result<(), Fail> {
     };
     let rows: [(&[&str], ExpireWords); 2] = [
         (&["expire", "d", "--before", "2026-11-25T10:00:00Z"], before),
-        (&["expire", "--undated", "--keep=90", "--dry-run", "d"], keep),
+        (
+            &["expire", "--undated", "--keep=90", "--dry-run", "d"],
+            keep,
+        ),
     ];
     for (words, asked_for) in rows {
         assert!(rt; expires(&rt, words, &asked_for), "{words:?}");
