@@ -1,6 +1,6 @@
 -- What is behind the batches of journals is set aside.
 use Rattle.std.proofs.Common.{◌≡◌, ◌≢◌, ◌⊎◌, inl, inr, ⊎_elim, ◌<◌, ◌^◌, ◌∷◌, ◌++◌, [], ℕ, List, length, map, refl, ap, sym}
-use Rattle.std.proofs.Common.{◌+◌, ◌≤◌, drop, length-append, subst, take, ◌∙◌, arith}
+use Rattle.std.proofs.Common.{◌+◌, drop, length-append, subst, take, ◌∙◌, arith}
 use Rattle.std.specs.Prelude.{Contains, None, Option, Some, codes}
 use Rattle.std.specs.List.{AllByRecursion}
 use Rattle.std.specs.List.Sorted.{IsStrictlyIncreasing}
@@ -11,11 +11,11 @@ use Rattle.disk.specs.Memory.{shown_now}
 use Rattle.disk.specs.States.{Entry as DiskEntry, NameMayLeave, State, kept}
 use Rattle.journal.specs.Batches.{HasBatches, batches_text}
 use Rattle.journal.specs.Journals.{IsSound, KeepsOrSettlesOthers}
-use Rattle.archive_text.specs.Entries.{Entry, Has}
+use Rattle.archive_text.specs.Entries.{Entry}
 use Rattle.archive_text.proofs.Members.{all_append, all_left, all_right, all_weaker}
 use Rattle.record_store.specs.Asides.{IsAside, KeepsOrSettlesFiles, ShowsOrNone, aside_causes, aside_name}
 use Rattle.record_store.specs.Causes.{IsCause, ShowsTooLong, opening_causes, reading_causes}
-use Rattle.record_store.specs.Crashes.{InSegment, Keeps}
+use Rattle.record_store.specs.Crashes.{Keeps}
 use Rattle.record_store.specs.Holdings.{JournalHas}
 use Rattle.record_store.specs.Names.{IsJournal, IsSegment, journal_name}
 use Rattle.record_store.specs.Shown.{GivesNewest, IsNewestShown, JournalsHave, ShowsNoJournal, ShowsTheBatches}
@@ -31,7 +31,7 @@ use Rattle.record_store.proofs.Newly.{too_long_still}
 use Rattle.record_store.proofs.Numbers.{increasing_take, last_apart}
 use Rattle.record_store.proofs.Readings.{some_batches}
 use Rattle.durable_store.specs.Asides.{ArePutAside, AreTails, CutsBeside, IsPutAside, IsTail, SetsTailsAside, ShowsAllBatches}
-use Rattle.durable_store.specs.Asides.{IsBehind, ShowsBatchesOf, TailIsAside, aside_number, tail_number}
+use Rattle.durable_store.specs.Asides.{IsBehind, TailIsAside, aside_number, tail_number}
 use Rattle.durable_store.specs.declared.aside.SetAside.{SetAside}
 use Rattle.durable_store.specs.declared.tail.Tail.{Tail}
 use Rattle.durable_store.proofs.Journals.{one_behind}

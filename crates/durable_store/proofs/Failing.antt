@@ -1,5 +1,5 @@
 -- Why a checkpoint fails.
-use Rattle.std.proofs.Common.{◌≡◌, ℕ, ◌+◌, ◌≤◌, List, ap, arith, subst, sym, ◌∙◌, length, take}
+use Rattle.std.proofs.Common.{◌≡◌, ◌≢◌, ℕ, ◌+◌, ◌≤◌, List, ap, arith, subst, sym, ◌∙◌, length, take}
 use Rattle.std.specs.Prelude.{ℤ, None, Option, Some, codes}
 use Rattle.std.specs.List.{AllByRecursion}
 use Rattle.std.proofs.lemmas.List.Elements.{All-from_recursion}
@@ -14,17 +14,18 @@ use Rattle.archive_digest.specs.Periods.{IsPeriodOf}
 use Rattle.archive_digest.specs.declared.period.Period.TheVariants.{Day as day_Period}
 use Rattle.record_store.specs.Causes.{IsDraftCause}
 use Rattle.record_store.specs.Keeping.{IsKeepCause}
-use Rattle.record_store.specs.Names.{IsDayName, draft_name}
-use Rattle.record_store.specs.Segments.{Drafts}
+use Rattle.record_store.specs.Names.{IsDayName}
+use Rattle.record_store.specs.Segments.{Drafts, segment_name}
 use Rattle.record_store.specs.declared.keeping.KeepFault.{KeepFault}
 use Rattle.record_store.specs.declared.keeping.KeepFault.TheVariants.{Disk, Day, Differs}
 use Rattle.record_store.specs.declared.segment.SegmentDraft.{SegmentDraft}
 use Rattle.record_store.specs.declared.store.RecordStore.{RecordStore}
 use Rattle.record_store.proofs.Causing.{cause_weaker}
-use Rattle.record_store.proofs.Naming.{segment_no_draft}
-use Rattle.durable_store.specs.Causes.{IsCheckpointCause, IsKeepingCause, IsWritingCause, ShowsOtherSegment}
-use Rattle.durable_store.specs.Causes.{turning_causes}
-use Rattle.durable_store.specs.Segments.{KeepsAside}
+use Rattle.record_store.proofs.Naming.{segment_not_short}
+use Rattle.durable_store.specs.Causes.{IsCheckpointCause, IsKeepingCause, ShowsOtherSegment, turning_causes}
+use Rattle.durable_store.specs.Segments.{KeepsAside, octets_of}
+use Rattle.durable_store.specs.declared.draft.DraftName.{DraftName}
+use Rattle.durable_store.specs.declared.draft.DraftName.TheVariants.{Checkpoint, Addition}
 use Rattle.durable_store.specs.declared.fault.CheckpointFault.{CheckpointFault}
 use Rattle.durable_store.specs.declared.fault.CheckpointFault.TheVariants.{Store, Segment}
 
@@ -85,13 +86,6 @@ keeping_less tells failed stands known new (Disk Memory) from is = is
 keeping_less tells failed stands known new Day from is = is
 keeping_less tells failed stands known new (Differs name) from is = λ tell k. is tell (from tell k)
 
-pub writing_less : (tells failed stands known : Type 0) (new : State) (fault : CheckpointFault)
-    → (tells → known → stands) → IsWritingCause tells failed stands new fault
-    → IsWritingCause tells failed known new fault
-writing_less tells failed stands known new (Store fault) from is = is
-writing_less tells failed stands known new (Segment fault) from is =
-    keeping_less tells failed stands known new fault from is
-
 pub checkpoint_less : (tells failed stands known : Type 0) (store : RecordStore) (new : State)
     (fault : CheckpointFault) → (tells → known → stands) → IsCheckpointCause tells failed stands store new fault
     → IsCheckpointCause tells failed known store new fault
@@ -100,12 +94,6 @@ checkpoint_less tells failed stands known store new (Store fault) from is =
     (λ failed. failed) (λ full. full) (λ other tell k. other tell (from tell k)) (λ long. long) (λ broken. broken) fault is
 checkpoint_less tells failed stands known store new (Segment fault) from is =
     keeping_less tells failed stands known new fault from is
-
--- where segments are not written, no checkpoint is made
-pub writing_fails : (tells failed stands : Type 0) (store : RecordStore) (new : State) (fault : CheckpointFault)
-    → IsWritingCause tells failed stands new fault → IsCheckpointCause tells failed stands store new fault
-writing_fails tells failed stands store new (Store fault) is = absurd is
-writing_fails tells failed stands store new (Segment fault) is = is
 
 -- of a draft that is kept
 pub kept_cause : (tells failed known : Type 0) (old new : State) (draft : SegmentDraft) (day : List ℕ)
@@ -137,7 +125,7 @@ kept_cause tells failed known old new draft day (Differs name) named drafts is =
 -- of a draft that is written
 pub draft_cause : (tells failed stands : Type 0) (state new : State) (draft : SegmentDraft) (fault : DiskFault)
     → (tells → stands → (text : List ℕ) × Drafts draft state text)
-    → IsDraftCause tells failed state draft.name fault → IsWritingCause tells failed stands new (Segment (Disk fault))
+    → IsDraftCause tells failed state draft.name fault → IsKeepingCause tells failed stands new (Disk fault)
 draft_cause tells failed stands state new draft Missing drafts is = λ tell k.
     let drafted = drafts tell k in
     absurd (cc (is tell, drafted.1.shown))
@@ -148,33 +136,32 @@ draft_cause tells failed stands state new draft Memory drafts is = is
 
 -- ---- once what is left of a draft is removed
 
-shows_aside : (old new : State) (name : List ℕ) → KeepsAside old new draft_name → ShowsOtherSegment old name
-    → ShowsOtherSegment new name
-shows_aside old new name aside shows = record {
+segment_apart : (period text : List ℕ) (name : DraftName) → segment_name period text ≢ octets_of name
+segment_apart period text Checkpoint = segment_not_short period text (octets_of Checkpoint) (omega arith)
+segment_apart period text Addition = segment_not_short period text (octets_of Addition) (omega arith)
+
+shows_aside : (old new : State) (draft : DraftName) (name : List ℕ) → KeepsAside old new (octets_of draft)
+    → ShowsOtherSegment old name → ShowsOtherSegment new name
+shows_aside old new draft name aside shows = record {
   day = shows.day;
   text = shows.text;
   other = record {
     named = shows.other.named;
     octets = shows.other.octets;
     shown = ap shown_now (aside.others name
-        (λ is. segment_no_draft shows.day shows.text (sym shows.other.named ∙ is))) ∙ shows.other.shown;
+        (λ is. segment_apart shows.day shows.text draft (sym shows.other.named ∙ is))) ∙ shows.other.shown;
     other = shows.other.other;
   };
 }
 
-module _ (tells told failed before stands : Type 0) (old new : State) (back : tells → told) (stays : before → failed)
-    (aside : tells → KeepsAside old new draft_name) where
-  keeping_then : (fault : KeepFault) → IsKeepingCause told before stands old fault
-      → IsKeepingCause tells failed stands new fault
-  keeping_then (Disk Missing) is = λ tell. is (back tell)
-  keeping_then (Disk Exists) is = λ tell. is (back tell)
-  keeping_then (Disk Full) is = stays is
-  keeping_then (Disk Failed) is = stays is
-  keeping_then (Disk Memory) is = is
-  keeping_then Day is = is
-  keeping_then (Differs name) is = λ tell k. shows_aside old new name (aside tell) (is (back tell) k)
-
-  pub writing_then : (fault : CheckpointFault) → IsWritingCause told before stands old fault
-      → IsWritingCause tells failed stands new fault
-  writing_then (Store fault) is = is
-  writing_then (Segment fault) is = keeping_then fault is
+pub keeping_then : (tells told failed before asked : Type 0) (old new : State) (draft : DraftName) → (tells → told)
+    → (before → failed) → (tells → KeepsAside old new (octets_of draft)) → (fault : KeepFault)
+    → IsKeepingCause told before asked old fault → IsKeepingCause tells failed asked new fault
+keeping_then tells told failed before asked old new draft back stays aside (Disk Missing) is = λ tell. is (back tell)
+keeping_then tells told failed before asked old new draft back stays aside (Disk Exists) is = λ tell. is (back tell)
+keeping_then tells told failed before asked old new draft back stays aside (Disk Full) is = stays is
+keeping_then tells told failed before asked old new draft back stays aside (Disk Failed) is = stays is
+keeping_then tells told failed before asked old new draft back stays aside (Disk Memory) is = is
+keeping_then tells told failed before asked old new draft back stays aside Day is = is
+keeping_then tells told failed before asked old new draft back stays aside (Differs name) is =
+    λ tell asked_for. shows_aside old new draft name (aside tell) (is (back tell) asked_for)

@@ -1,5 +1,5 @@
 -- How many segments come.
-use Rattle.std.proofs.Common.{◌≡◌, inr, ℕ, ◌+◌, ◌*◌, ◌<◌, ◌≤◌, ◌^◌, List, [], ◌∷◌, ◌++◌, length, refl, sym, ap, subst}
+use Rattle.std.proofs.Common.{◌≡◌, ℕ, ◌+◌, ◌*◌, ◌<◌, ◌≤◌, ◌^◌, List, [], ◌∷◌, ◌++◌, length, refl, sym, ap, subst}
 use Rattle.std.proofs.Common.{arith, length-append, suc, zero}
 use Rattle.std.proofs.Math.Nat.{le_of_mul-le-mul_right, mul-le-mul_right}
 use Rattle.std.proofs.lemmas.Fmt.{length-decimal-le_succ}
@@ -102,7 +102,7 @@ pub more_counted : (len more : ℕ) (es : List Entry) (e : Entry) → len ≡ at
 more_counted len more es e is also =
     omega (arith, is, also, ap length (text_push es e), length-append (text_of es) (entry_text e))
 
-entry_fits : (e : Entry) → length e.octets ≤ ENTRY_MAX → length (entry_text e) ≤ 2 ^ 21
+pub entry_fits : (e : Entry) → length e.octets ≤ ENTRY_MAX → length (entry_text e) ≤ 2 ^ 21
 entry_fits e fits =
     omega (
       arith,

@@ -1,5 +1,5 @@
 -- All journals are brought into memory.
-use Rattle.std.proofs.Common.{◌≡◌, ◌≢◌, ◌⊎◌, inl, inr, ⊎_elim, ℕ, ◌<◌, ◌≤◌, ◌+◌, ◌^◌, List, [], ◌∷◌, ◌++◌, drop, length, map}
+use Rattle.std.proofs.Common.{◌≡◌, ◌≢◌, inl, inr, ⊎_elim, ℕ, ◌<◌, ◌≤◌, ◌+◌, ◌^◌, List, [], ◌∷◌, ◌++◌, drop, length, map}
 use Rattle.std.proofs.Common.{refl, sym, ap, subst, ◌∙◌, arith}
 use Rattle.std.specs.Prelude.{◌↔◌, Contains, None, Option, Some}
 use Rattle.std.specs.List.{AllByRecursion}
@@ -9,16 +9,15 @@ use Rattle.std.proofs.lemmas.List.Elements.{Contains-append_left, Contains-push,
 use Rattle.disk.specs.Calls.{IsUnchanged}
 use Rattle.disk.specs.Memory.{shown_now}
 use Rattle.disk.specs.States.{State}
-use Rattle.journal.specs.Batches.{HasBatches, batches_text}
+use Rattle.journal.specs.Batches.{batches_text}
 use Rattle.journal.specs.Journals.{EndsAt, IsSound}
 use Rattle.journal.proofs.Readings.{one_reading}
 use Rattle.archive_text.specs.Entries.{Entry, Has}
 use Rattle.archive_text.proofs.Members.{all_append}
-use Rattle.record_store.specs.Causes.{IsCause, opening_causes, reading_causes}
+use Rattle.record_store.specs.Causes.{opening_causes, reading_causes}
 use Rattle.record_store.specs.Holdings.{IsWholeJournal, JournalHas}
 use Rattle.record_store.specs.Names.{journal_name}
-use Rattle.record_store.specs.Shown.{AreShown, JournalsHave, journal_shown}
-use Rattle.record_store.specs.declared.fault.StoreFault.{StoreFault}
+use Rattle.record_store.specs.Shown.{AreShown, journal_shown}
 use Rattle.record_store.proofs.Causing.{cause_weaker}
 use Rattle.record_store.proofs.Numbers.{below_last, increasing_push}
 use Rattle.durable_store.specs.Asides.{AddsJournal, AreTails, IsBehind, IsTail, IsTailOf, tail_number}

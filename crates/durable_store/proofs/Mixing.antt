@@ -13,13 +13,12 @@ use Rattle.archive_text.proofs.Members.{all_append, all_left, all_right, all_wea
 use Rattle.archive_text.proofs.Texts.{text_append}
 use Rattle.record_store.specs.Holdings.{IsOfPeriod}
 use Rattle.journal.specs.Journals.{IsSound}
-use Rattle.record_store.specs.Names.{Counts}
 use Rattle.record_store.specs.Segments.{Drafts}
 use Rattle.record_store.specs.Stores.{AreAmong}
 use Rattle.record_store.specs.declared.segment.SegmentDraft.{SegmentDraft}
-use Rattle.durable_store.specs.Segments.{IsWritten, KeepsAside, Mixes, MixesDay, Puts, PutsMixed}
+use Rattle.durable_store.specs.Segments.{DraftsMixed, IsWritten, KeepsAside, Mixes, MixesDay, Puts, PutsMixed}
 use Rattle.durable_store.specs.Shares.{AreDays, HasShare, IsDay}
-use Rattle.durable_store.proofs.Daily.{Drafted, all_pushed, drafted_as}
+use Rattle.durable_store.proofs.Daily.{all_pushed}
 use Rattle.durable_store.proofs.Runs.{days_push}
 
 -- ---- an archive without some of its entries
@@ -152,13 +151,21 @@ pub any_period : (es : List Entry) → AllByRecursion (IsOfPeriod (codes "mixed"
 any_period [] = tt
 any_period (e ∷ es) = (inr refl, any_period es)
 
-pub mixed_drafted : (zero one two : State) (tells told : Type 0) (total : ℕ) (begun draft : SegmentDraft)
-    (name period : List ℕ) (all : List Entry) → (tells → told) → period ≡ codes "mixed" → ¬ (Counts name)
-    → (told → IsSound zero → Drafts begun one []) → (told → KeepsAside zero one name)
-    → (told → KeepsAside one two begun.name) → (put : PutsMixed told total begun one draft two all)
-    → begun.name ≡ name → draft.name ≡ begun.name → Drafted zero two tells draft period put.mixed all
-mixed_drafted zero one two tells told total begun draft name period all back mixed apart begins aside more put named kept =
-    drafted_as zero one two tells begun draft name period put.mixed all apart
-    (subst (λ (p : List ℕ). AllByRecursion (IsOfPeriod p) put.mixed) (sym mixed) (any_period put.mixed)) put.archive
-    (λ received among e has. among e (put.among e has)) (λ tell. begins (back tell)) (λ tell. aside (back tell))
-    (λ tell. more (back tell)) (λ tell. put.drafts (back tell)) named kept
+pub mixed_drafted : (zero one two : State) (tells : Type 0) (total : ℕ) (begun draft : SegmentDraft) (name : List ℕ)
+    (all : List Entry) → (tells → IsSound zero → Drafts begun one []) → (tells → KeepsAside zero two name)
+    → PutsMixed tells total begun one draft two all → begun.name ≡ name → draft.name ≡ begun.name
+    → DraftsMixed tells total zero two name draft all
+mixed_drafted zero one two tells total begun draft name all begins aside put named kept = record {
+  runs = put.runs;
+  are = put.are;
+  mixed = put.mixed;
+  mixes = put.mixes;
+  drafts = record {
+    named = kept ∙ named;
+    aside = aside;
+    drafts = λ tell sound. put.drafts tell (begins tell sound);
+    archive = put.archive;
+    among = put.among;
+    days = any_period put.mixed;
+  };
+}

@@ -66,17 +66,12 @@ pub record ShowsOtherSegment (state : State) (name : List ℕ) : Type 0 where
   pub text : List ℕ
   pub other : ShowsOther state day text name
 
--- what has to be so where a segment is not kept: no file is missing if the store stands, none is ever in the way, each
--- day has a name, and a file is told as another, if the store stands, only if it is
+-- what has to be so where a segment is not kept: no file is missing if what is asked holds, none is ever in the way,
+-- each day has a name, and a file is told as another, if what is asked holds, only if it is
 abbrev pub IsKeepingCause : Type 0 → Type 0 → Type 0 → State → KeepFault → Type 0
-IsKeepingCause tells failed stands new (Disk fault) = IsFileCause failed (tells → ¬ stands) (¬ tells) fault
-IsKeepingCause tells failed stands new Day = ⊥
-IsKeepingCause tells failed stands new (Differs name) = tells → stands → ShowsOtherSegment new name
-
--- where segments are not written
-abbrev pub IsWritingCause : Type 0 → Type 0 → Type 0 → State → CheckpointFault → Type 0
-IsWritingCause tells failed stands new (Store fault) = ⊥
-IsWritingCause tells failed stands new (Segment fault) = IsKeepingCause tells failed stands new fault
+IsKeepingCause tells failed asked new (Disk fault) = IsFileCause failed (tells → ¬ asked) (¬ tells) fault
+IsKeepingCause tells failed asked new Day = ⊥
+IsKeepingCause tells failed asked new (Differs name) = tells → asked → ShowsOtherSegment new name
 
 -- of the turn: there may be no greater number, and no file is missing or in the way if the store stands
 abbrev pub turning_causes : Type 0 → Type 0 → Type 0 → RecordStore → Causes

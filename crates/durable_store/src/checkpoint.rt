@@ -9,6 +9,7 @@ ghost use Rattle.durable_store.specs.Causes.{IsCheckpointCause, StandsAtAll, Sta
 ghost use Rattle.durable_store.specs.Durables.{IsBroken, Stands, entries_of, journal_store};
 
 use crate::DurableStore;
+use crate::draft::DraftName;
 use crate::fault::CheckpointFault;
 use crate::mixed::write_segments;
 use archive_pages::PagedArchive;
@@ -44,7 +45,10 @@ fn write_out<D: Disk>(
     if store.is_broken() {
         return Err(CheckpointFault::Store(StoreFault::Broken));
     }
-    write_segments(alloc, disk, store, set)?;
+    if let Err(fault) = write_segments(alloc, disk, DraftName::Checkpoint, set) {
+        store.break_off();
+        return Err(CheckpointFault::Segment(fault));
+    }
     store.turn(alloc, disk)?;
     Ok(())
 }

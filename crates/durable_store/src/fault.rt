@@ -61,42 +61,6 @@ impl From<StoreFault> for CheckpointFault {
     }
 }
 
-impl From<KeepFault> for CheckpointFault {
-    ghost use Rattle.std.specs.Prelude.{◌≡◌};
-    ghost use Rattle.durable_store.specs.declared.fault.CheckpointFault.TheVariants.{Segment};
-
-    ghost from_gives = { λ fault wrapped. wrapped ≡ Segment fault };
-
-    fn from(fault: KeepFault) -> CheckpointFault {
-        CheckpointFault::Segment(fault)
-    }
-}
-
-impl From<DiskFault> for CheckpointFault {
-    ghost use Rattle.std.specs.Prelude.{◌≡◌};
-    ghost use Rattle.record_store.specs.declared.keeping.KeepFault.TheVariants.{Disk};
-    ghost use Rattle.durable_store.specs.declared.fault.CheckpointFault.TheVariants.{Segment};
-
-    ghost from_gives = { λ fault wrapped. wrapped ≡ Segment (Disk fault) };
-
-    fn from(fault: DiskFault) -> CheckpointFault {
-        CheckpointFault::Segment(KeepFault::Disk(fault))
-    }
-}
-
-impl From<AllocError> for CheckpointFault {
-    ghost use Rattle.std.specs.Prelude.{◌≡◌};
-    ghost use Rattle.disk.specs.declared.fault.DiskFault.TheVariants.{Memory};
-    ghost use Rattle.record_store.specs.declared.keeping.KeepFault.TheVariants.{Disk};
-    ghost use Rattle.durable_store.specs.declared.fault.CheckpointFault.TheVariants.{Segment};
-
-    ghost from_gives = { λ _ wrapped. wrapped ≡ Segment (Disk Memory) };
-
-    fn from(_: AllocError) -> CheckpointFault {
-        CheckpointFault::Segment(KeepFault::Disk(DiskFault::Memory))
-    }
-}
-
 impl CheckpointFault {
     ghost use Rattle.std.specs.Prelude.{◌↔◌, IsTrue};
     ghost use Rattle.durable_store.specs.Causes.{TellsFull};

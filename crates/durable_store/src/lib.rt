@@ -13,6 +13,7 @@
 mod adding;
 mod aside;
 mod checkpoint;
+mod draft;
 mod fault;
 mod mixed;
 mod recovery;
@@ -22,6 +23,9 @@ mod store;
 mod tail;
 
 pub use aside::SetAside;
+pub use draft::DraftName;
 pub use fault::{CheckpointFault, OpenFault};
+pub use mixed::write_segments;
 pub use recovery::check_journals;
+pub use shares::entry_len;
 pub use store::DurableStore;

@@ -1,25 +1,21 @@
 //! The segment of the days that have none of their own.
-ghost use Rattle.std.specs.Prelude.{◌≡◌, ◌∷◌, ◌<◌, ◌^◌, [], IfErr, IfOk, List, ℕ, OnOk};
+ghost use Rattle.std.specs.Prelude.{◌≡◌, ◌∷◌, [], IfErr, IfOk, List, ℕ, OnOk};
 ghost use Rattle.archive_pages.specs.Paged.{entries_from, entries_in};
 ghost use Rattle.archive_text.specs.EntryViews.{entry_of};
-ghost use Rattle.archive_text.specs.Text.{IsArchive};
-ghost use Rattle.archive_text.specs.declared.limits.TheConstants.{ENTRY_MAX};
 ghost use Rattle.journal.specs.Journals.{IsSound};
 ghost use Rattle.record_store.specs.Crashes.{HeldApart};
-ghost use Rattle.record_store.specs.Names.{draft_name as draft_octets};
 ghost use Rattle.record_store.specs.Segments.{Drafts, GrowsBeside, draft_of};
-ghost use Rattle.record_store.specs.Stores.{AreAmong, IsBroken as IsStoreBroken, IsWhole, Sets};
-ghost use Rattle.record_store.specs.Stores.{Stands as JournalStands, number_of};
-ghost use Rattle.durable_store.specs.Causes.{IsWritingCause, StandsWith};
-ghost use Rattle.durable_store.specs.Segments.{KeepsAside, MixesDay, PutsMixed, WritesMixed};
+ghost use Rattle.durable_store.specs.Causes.{IsKeepingCause};
+ghost use Rattle.durable_store.specs.Segments.{DraftsMixed, GainsOnly, KeepsAside, MixesDay, PutsMixed};
+ghost use Rattle.durable_store.specs.Segments.{WritesMixed, octets_of};
 
-use crate::fault::CheckpointFault;
-use crate::segments::{draft_name, put_entries, write_days};
+use crate::draft::DraftName;
+use crate::segments::{put_entries, write_days};
 use crate::shares::{day_len, day_of, is_share, set_len};
 use archive_pages::{PagedArchive, Place};
 use archive_text::EntryView;
 use disk::Disk;
-use record_store::{RecordStore, SegmentDraft};
+use record_store::{KeepFault, SegmentDraft};
 use std::alloc::Global;
 
 // what the name of the segment of several days begins with
@@ -36,7 +32,7 @@ fn mix_day<D: Disk>(
     total: u64,
     first: &EntryView<'_>,
     behind: Place,
-) -> Result<Place, CheckpointFault>
+) -> Result<Place, KeepFault>
     ensures put { IfOk result (λ place. MixesDay (D.tells disk.new) total draft.old (D.state disk.old)
         buffer.old.items draft.new (D.state disk.new) buffer.new.items
         (entry_of first.now ∷ entries_from set.now behind) (entries_from set.now place)) }
@@ -44,7 +40,7 @@ fn mix_day<D: Disk>(
         → KeepsAside (D.state disk.old) (D.state disk.new) (draft_of draft.old) }
     ensures name { draft_of draft.new ≡ draft_of draft.old }
     ensures told { D.tells disk.new → D.tells disk.old }
-    ensures cause { IfErr result (IsWritingCause (D.tells disk.new) (D.has_failed disk.new)
+    ensures cause { IfErr result (IsKeepingCause (D.tells disk.new) (D.has_failed disk.new)
         ((text : List ℕ) × Drafts draft.old (D.state disk.old) text) (D.state disk.new)) }
 {
     let day = day_of(alloc, first.instant)?;
@@ -62,14 +58,14 @@ fn put_mixed<D: Disk>(
     draft: &mut SegmentDraft,
     set: &PagedArchive,
     total: u64,
-) -> Result<(), CheckpointFault>
+) -> Result<(), KeepFault>
     ensures put { OnOk result (PutsMixed (D.tells disk.new) total draft.old (D.state disk.old) draft.new
         (D.state disk.new) (entries_in set.now)) }
     ensures aside { D.tells disk.new
         → KeepsAside (D.state disk.old) (D.state disk.new) (draft_of draft.old) }
     ensures name { draft_of draft.new ≡ draft_of draft.old }
     ensures told { D.tells disk.new → D.tells disk.old }
-    ensures cause { IfErr result (IsWritingCause (D.tells disk.new) (D.has_failed disk.new)
+    ensures cause { IfErr result (IsKeepingCause (D.tells disk.new) (D.has_failed disk.new)
         (Drafts draft.old (D.state disk.old) []) (D.state disk.new)) }
 {
     let mut buffer = Vec::new(alloc);
@@ -81,113 +77,127 @@ fn put_mixed<D: Disk>(
     Ok(())
 }
 
+// Drafts one segment of the days of a set that do not have their share of all octets.
+fn draft_mixed<D: Disk>(
+    alloc: Global,
+    disk: &mut D,
+    name: DraftName,
+    set: &PagedArchive,
+    total: u64,
+) -> Result<SegmentDraft, KeepFault>
+    ensures drafted { IfOk result (λ draft. DraftsMixed (D.tells disk.new) total (D.state disk.old)
+        (D.state disk.new) (octets_of name) draft (entries_in set.now)) }
+    ensures aside { D.tells disk.new
+        → KeepsAside (D.state disk.old) (D.state disk.new) (octets_of name) }
+    ensures told { D.tells disk.new → D.tells disk.old }
+    ensures cause { IfErr result (IsKeepingCause (D.tells disk.new) (D.has_failed disk.new)
+        (IsSound (D.state disk.old)) (D.state disk.new)) }
+{
+    let mut draft = SegmentDraft::begin(disk, name.file_name(alloc)?)?;
+    put_mixed(alloc, disk, &mut draft, set, total)?;
+    Ok(draft)
+}
+
 // Writes one segment of the days of a set that do not have their share of all octets.
 fn write_mixed<D: Disk>(
     alloc: Global,
     disk: &mut D,
-    store: &mut RecordStore,
+    name: DraftName,
     set: &PagedArchive,
     total: u64,
-) -> Result<(), CheckpointFault>
+) -> Result<(), KeepFault>
     ensures wrote { OnOk result (WritesMixed (D.tells disk.new) total (D.state disk.old)
         (D.state disk.new) (entries_in set.now)) }
 
     // whatever the result is: so at every moment
-    ensures stands { D.tells disk.new → IsSound (D.state disk.old) → (sets : Sets)
-        → JournalStands store.old (D.state disk.old) sets → IsArchive ENTRY_MAX (entries_in set.now)
-        → AreAmong (entries_in set.now) sets.received
-        → JournalStands store.new (D.state disk.new) sets }
+    ensures gains { D.tells disk.new → IsSound (D.state disk.old)
+        → GainsOnly (D.state disk.old) (D.state disk.new) (octets_of name) (entries_in set.now) }
     ensures segments { D.tells disk.new → IsSound (D.state disk.old)
         → GrowsBeside 1 (D.state disk.old) (D.state disk.new) }
 
-    ensures number { number_of store.new ≡ number_of store.old }
-    ensures goes_on { OnOk result (IsStoreBroken store.new → IsStoreBroken store.old) }
     ensures told { D.tells disk.new → D.tells disk.old }
-    ensures cause { IfErr result (IsWritingCause (D.tells disk.new) (D.has_failed disk.new)
+    ensures cause { IfErr result (IsKeepingCause (D.tells disk.new) (D.has_failed disk.new)
         (IsSound (D.state disk.old)) (D.state disk.new)) }
 {
-    let mut draft = SegmentDraft::begin(disk, draft_name(alloc)?)?;
-    put_mixed(alloc, disk, &mut draft, set, total)?;
-    store.keep_segment(alloc, disk, draft, MIXED)?;
-    Ok(())
+    draft_mixed(alloc, disk, name, set, total)?.keep(alloc, disk, MIXED)
 }
 
 // Writes the days that have their share, and then the others.
 fn write_both<D: Disk>(
     alloc: Global,
     disk: &mut D,
-    store: &mut RecordStore,
+    name: DraftName,
     set: &PagedArchive,
-) -> Result<(), CheckpointFault>
-    ensures held { OnOk result (D.tells disk.new → (sets : Sets) → IsWhole store.old
-        → JournalStands store.old (D.state disk.old) sets → AreAmong (entries_in set.now) sets.received
+) -> Result<(), KeepFault>
+    ensures held { OnOk result (D.tells disk.new → IsSound (D.state disk.old)
         → HeldApart (D.state disk.new) (entries_in set.now)) }
+    ensures sound { OnOk result (D.tells disk.new → IsSound (D.state disk.old)
+        → IsSound (D.state disk.new)) }
 
     // whatever the result is: so at every moment
-    ensures stands { D.tells disk.new → (sets : Sets) → IsWhole store.old
-        → JournalStands store.old (D.state disk.old) sets → AreAmong (entries_in set.now) sets.received
-        → JournalStands store.new (D.state disk.new) sets }
-    ensures segments { D.tells disk.new → IsWhole store.old
-        → StandsWith store.old (D.state disk.old) (entries_in set.now)
+    ensures gains { D.tells disk.new → IsSound (D.state disk.old)
+        → GainsOnly (D.state disk.old) (D.state disk.new) (octets_of name) (entries_in set.now) }
+    ensures segments { D.tells disk.new → IsSound (D.state disk.old)
         → GrowsBeside 65 (D.state disk.old) (D.state disk.new) }
 
-    ensures number { number_of store.new ≡ number_of store.old }
-    ensures goes_on { OnOk result (IsStoreBroken store.new → IsStoreBroken store.old) }
     ensures told { D.tells disk.new → D.tells disk.old }
-    ensures cause { IfErr result (IsWritingCause (D.tells disk.new) (D.has_failed disk.new)
-        (IsWhole store.old × StandsWith store.old (D.state disk.old) (entries_in set.now)) (D.state disk.new)) }
+    ensures cause { IfErr result (IsKeepingCause (D.tells disk.new) (D.has_failed disk.new)
+        (IsSound (D.state disk.old)) (D.state disk.new)) }
 {
     let total = set_len(set);
-    if write_days(alloc, disk, store, set, total)? {
-        return write_mixed(alloc, disk, store, set, total);
+    if write_days(alloc, disk, name, set, total)? {
+        return write_mixed(alloc, disk, name, set, total);
     }
     Ok(())
 }
 
 // Removes what is left of a draft, where the disk lets it.
-fn drop_draft<D: Disk>(alloc: Global, disk: &mut D)
+fn drop_draft<D: Disk>(alloc: Global, disk: &mut D, name: DraftName)
     ensures aside { D.tells disk.new
-        → KeepsAside (D.state disk.old) (D.state disk.new) draft_octets }
+        → KeepsAside (D.state disk.old) (D.state disk.new) (octets_of name) }
     ensures told { D.tells disk.new → D.tells disk.old }
     ensures failed { D.has_failed disk.old → D.has_failed disk.new }
 {
-    let Ok(name) = draft_name(alloc) else {
+    let Ok(file) = name.file_name(alloc) else {
         return;
     };
-    let _ = disk.remove(&name);
+    let _ = disk.remove(&file);
 }
 
 /// Writes the entries of a set as segments: one of each day that has at least a 64th of the octets of
-/// the set's archive, and one of all other days. Where it fails, the draft is removed if the disk lets
-/// it, so that it takes no room.
-pub(crate) fn write_segments<D: Disk>(
+/// the set's archive, and one, `mixed`, of all other days, so that at most 65 come. Each is a draft of
+/// this name first. A crash at any moment leaves what the folder kept, and nothing else but entries of
+/// the set; once it has returned `Ok`, segments hold each of them, whatever a crash leaves. It can say
+/// so only if no sync has failed since the machine was started.
+///
+/// # Errors
+/// The disk's fault, lack of memory, or a damaged file under the name of a segment, which stays. Some
+/// segments may be there; the draft is removed if the disk lets it, so that it takes no room.
+pub fn write_segments<D: Disk>(
     alloc: Global,
     disk: &mut D,
-    store: &mut RecordStore,
+    name: DraftName,
     set: &PagedArchive,
-) -> Result<(), CheckpointFault>
-    ensures held { OnOk result (D.tells disk.new → (sets : Sets) → IsWhole store.old
-        → JournalStands store.old (D.state disk.old) sets → AreAmong (entries_in set.now) sets.received
+) -> Result<(), KeepFault>
+    ensures held { OnOk result (D.tells disk.new → IsSound (D.state disk.old)
         → HeldApart (D.state disk.new) (entries_in set.now)) }
+    ensures sound { OnOk result (D.tells disk.new → IsSound (D.state disk.old)
+        → IsSound (D.state disk.new)) }
 
     // whatever the result is: so at every moment
-    ensures stands { D.tells disk.new → (sets : Sets) → IsWhole store.old
-        → JournalStands store.old (D.state disk.old) sets → AreAmong (entries_in set.now) sets.received
-        → JournalStands store.new (D.state disk.new) sets }
-    ensures segments { D.tells disk.new → IsWhole store.old
-        → StandsWith store.old (D.state disk.old) (entries_in set.now)
+    ensures gains { D.tells disk.new → IsSound (D.state disk.old)
+        → GainsOnly (D.state disk.old) (D.state disk.new) (octets_of name) (entries_in set.now) }
+    ensures segments { D.tells disk.new → IsSound (D.state disk.old)
         → GrowsBeside 65 (D.state disk.old) (D.state disk.new) }
 
-    ensures number { number_of store.new ≡ number_of store.old }
-    ensures goes_on { OnOk result (IsStoreBroken store.new → IsStoreBroken store.old) }
     ensures told { D.tells disk.new → D.tells disk.old }
-    ensures cause { IfErr result (IsWritingCause (D.tells disk.new) (D.has_failed disk.new)
-        (IsWhole store.old × StandsWith store.old (D.state disk.old) (entries_in set.now)) (D.state disk.new)) }
+    ensures cause { IfErr result (IsKeepingCause (D.tells disk.new) (D.has_failed disk.new)
+        (IsSound (D.state disk.old)) (D.state disk.new)) }
 {
-    match write_both(alloc, disk, store, set) {
+    match write_both(alloc, disk, name, set) {
         Ok(()) => Ok(()),
         Err(fault) => {
-            drop_draft(alloc, disk);
+            drop_draft(alloc, disk, name);
             Err(fault)
         }
     }

@@ -6,40 +6,25 @@ ghost use Rattle.archive_digest.specs.Periods.{IsIn};
 ghost use Rattle.archive_digest.specs.declared.period.Period.TheVariants.{Day as day_Period};
 ghost use Rattle.archive_pages.specs.Paged.{entries_from, entries_in};
 ghost use Rattle.archive_text.specs.EntryViews.{entry_of};
-ghost use Rattle.archive_text.specs.Text.{IsArchive, text_of};
-ghost use Rattle.archive_text.specs.declared.limits.TheConstants.{ENTRY_MAX};
+ghost use Rattle.archive_text.specs.Text.{text_of};
 ghost use Rattle.journal.specs.Journals.{IsSound};
-ghost use Rattle.record_store.specs.Names.{Counts, draft_name as draft_octets};
 ghost use Rattle.record_store.specs.Segments.{Drafts, GrowsBeside, draft_of};
-ghost use Rattle.record_store.specs.Stores.{AreAmong, IsBroken as IsStoreBroken, IsWhole, Sets};
-ghost use Rattle.record_store.specs.Stores.{Stands as JournalStands, number_of};
-ghost use Rattle.durable_store.specs.Causes.{IsWritingCause, StandsWith};
-ghost use Rattle.durable_store.specs.Segments.{IsWritten, KeepsAside, Puts, PutsDay, PutsEntries, WritesDay};
-ghost use Rattle.durable_store.specs.Segments.{WritesDays, WritesShare};
+ghost use Rattle.durable_store.specs.Causes.{IsKeepingCause};
+ghost use Rattle.durable_store.specs.Segments.{DraftsDay, GainsAmong, GainsOnly, KeepsAside, Puts, PutsDay};
+ghost use Rattle.durable_store.specs.Segments.{PutsEntries, WritesDay, WritesDays, WritesShare, octets_of};
 ghost use Rattle.durable_store.specs.Shares.{GrowsBy};
 
-use crate::fault::CheckpointFault;
+use crate::draft::DraftName;
 use crate::shares::{day_len, day_of, is_share, next_of};
 use archive_pages::{PagedArchive, Place};
 use archive_text::EntryView;
-use disk::{Disk, FileName};
+use disk::Disk;
 use itoa::Buffer;
-use record_store::{RecordStore, SegmentDraft};
+use record_store::{KeepFault, SegmentDraft};
 use std::alloc::{AllocError, Global};
 
 // a piece of so many octets is written
 const PIECE: usize = 262_144;
-
-// what a segment is called until all of it is on the disk
-pub(crate) fn draft_name(alloc: Global) -> Result<FileName, AllocError>
-    ensures name { IfOk result (λ name. name ≡ draft_octets) }
-    ensures apart { IfOk result (λ name. ¬ (Counts name)) }
-{
-    match FileName::new(alloc, b"new.archive")? {
-        Some(name) => Ok(name),
-        None => unreachable!(),
-    }
-}
 
 // Puts the text of an entry behind what is held back.
 fn hold_back(buffer: &mut Vec<u8>, octets: &[u8]) -> Result<(), AllocError>
@@ -57,14 +42,14 @@ fn put_entry<D: Disk>(
     draft: &mut SegmentDraft,
     buffer: &mut Vec<u8>,
     octets: &[u8],
-) -> Result<(), CheckpointFault>
+) -> Result<(), KeepFault>
     ensures put { OnOk result (Puts (D.tells disk.new) draft.old (D.state disk.old) buffer.old.items
         draft.new (D.state disk.new) buffer.new.items (framed Counted octets.now)) }
     ensures aside { D.tells disk.new
         → KeepsAside (D.state disk.old) (D.state disk.new) (draft_of draft.old) }
     ensures name { draft_of draft.new ≡ draft_of draft.old }
     ensures told { D.tells disk.new → D.tells disk.old }
-    ensures cause { IfErr result (IsWritingCause (D.tells disk.new) (D.has_failed disk.new)
+    ensures cause { IfErr result (IsKeepingCause (D.tells disk.new) (D.has_failed disk.new)
         ((text : List ℕ) × Drafts draft.old (D.state disk.old) text) (D.state disk.new)) }
 {
     hold_back(buffer, octets)?;
@@ -85,7 +70,7 @@ pub(crate) fn put_entries<D: Disk>(
     first: &EntryView<'_>,
     behind: Place,
     day: &[u8],
-) -> Result<Place, CheckpointFault>
+) -> Result<Place, KeepFault>
     ensures put { IfOk result (λ place. PutsEntries (D.tells disk.new) draft.old (D.state disk.old)
         buffer.old.items draft.new (D.state disk.new) buffer.new.items day.now (entry_of first.now)
         (entries_from set.now behind) (entries_from set.now place)) }
@@ -93,7 +78,7 @@ pub(crate) fn put_entries<D: Disk>(
         → KeepsAside (D.state disk.old) (D.state disk.new) (draft_of draft.old) }
     ensures name { draft_of draft.new ≡ draft_of draft.old }
     ensures told { D.tells disk.new → D.tells disk.old }
-    ensures cause { IfErr result (IsWritingCause (D.tells disk.new) (D.has_failed disk.new)
+    ensures cause { IfErr result (IsKeepingCause (D.tells disk.new) (D.has_failed disk.new)
         ((text : List ℕ) × Drafts draft.old (D.state disk.old) text) (D.state disk.new)) }
 {
     put_entry(disk, draft, buffer, first.octets)?;
@@ -115,7 +100,7 @@ fn put_day<D: Disk>(
     first: &EntryView<'_>,
     behind: Place,
     day: &[u8],
-) -> Result<Place, CheckpointFault>
+) -> Result<Place, KeepFault>
     ensures put { IfOk result (λ place. PutsDay (D.tells disk.new) draft.old (D.state disk.old) draft.new
         (D.state disk.new) day.now (entry_of first.now) (entries_from set.now behind)
         (entries_from set.now place)) }
@@ -123,7 +108,7 @@ fn put_day<D: Disk>(
         → KeepsAside (D.state disk.old) (D.state disk.new) (draft_of draft.old) }
     ensures name { draft_of draft.new ≡ draft_of draft.old }
     ensures told { D.tells disk.new → D.tells disk.old }
-    ensures cause { IfErr result (IsWritingCause (D.tells disk.new) (D.has_failed disk.new)
+    ensures cause { IfErr result (IsKeepingCause (D.tells disk.new) (D.has_failed disk.new)
         (Drafts draft.old (D.state disk.old) []) (D.state disk.new)) }
 {
     let mut buffer = Vec::new(alloc);
@@ -132,40 +117,60 @@ fn put_day<D: Disk>(
     Ok(place)
 }
 
+// Drafts the segment of the day of an entry: that entry and those of the day that follow it. Gives the
+// draft, and the place behind them.
+fn draft_day<D: Disk>(
+    alloc: Global,
+    disk: &mut D,
+    name: DraftName,
+    set: &PagedArchive,
+    first: &EntryView<'_>,
+    behind: Place,
+    day: &[u8],
+) -> Result<(SegmentDraft, Place), KeepFault>
+    requires { IsIn day_Period day.now (entry_of first.now) }
+    ensures drafted { IfOk result (λ r. DraftsDay (D.tells disk.new) (D.state disk.old) (D.state disk.new)
+        (octets_of name) r.0 day.now (entry_of first.now ∷ entries_from set.now behind)
+        (entries_from set.now r.1)) }
+    ensures aside { D.tells disk.new
+        → KeepsAside (D.state disk.old) (D.state disk.new) (octets_of name) }
+    ensures told { D.tells disk.new → D.tells disk.old }
+    ensures cause { IfErr result (IsKeepingCause (D.tells disk.new) (D.has_failed disk.new)
+        (IsSound (D.state disk.old)) (D.state disk.new)) }
+{
+    let mut draft = SegmentDraft::begin(disk, name.file_name(alloc)?)?;
+    let place = put_day(alloc, disk, &mut draft, set, first, behind, day)?;
+    Ok((draft, place))
+}
+
 // Writes the segment of the day of an entry: that entry and those of the day that follow it. Gives the
 // place behind them.
 fn write_day<D: Disk>(
     alloc: Global,
     disk: &mut D,
-    store: &mut RecordStore,
+    name: DraftName,
     set: &PagedArchive,
     first: &EntryView<'_>,
     behind: Place,
     day: &[u8],
-) -> Result<Place, CheckpointFault>
+) -> Result<Place, KeepFault>
     requires { IsIn day_Period day.now (entry_of first.now) }
     ensures wrote { IfOk result (λ place. WritesDay (D.tells disk.new) (D.state disk.old)
         (D.state disk.new) (entry_of first.now ∷ entries_from set.now behind)
         (entries_from set.now place)) }
 
     // whatever the result is: so at every moment
-    ensures stands { D.tells disk.new → IsSound (D.state disk.old) → (sets : Sets)
-        → JournalStands store.old (D.state disk.old) sets
-        → IsArchive ENTRY_MAX (entry_of first.now ∷ entries_from set.now behind)
-        → AreAmong (entry_of first.now ∷ entries_from set.now behind) sets.received
-        → JournalStands store.new (D.state disk.new) sets }
+    ensures gains { GainsAmong (D.tells disk.new) (D.state disk.old) (D.state disk.new) (octets_of name)
+        (entry_of first.now ∷ entries_from set.now behind) }
     ensures segments { D.tells disk.new → IsSound (D.state disk.old)
         → GrowsBeside 1 (D.state disk.old) (D.state disk.new) }
 
-    ensures number { number_of store.new ≡ number_of store.old }
-    ensures goes_on { OnOk result (IsStoreBroken store.new → IsStoreBroken store.old) }
     ensures told { D.tells disk.new → D.tells disk.old }
-    ensures cause { IfErr result (IsWritingCause (D.tells disk.new) (D.has_failed disk.new)
+    ensures cause { IfErr result (IsKeepingCause (D.tells disk.new) (D.has_failed disk.new)
         (IsSound (D.state disk.old)) (D.state disk.new)) }
 {
-    let mut draft = SegmentDraft::begin(disk, draft_name(alloc)?)?;
-    let place = put_day(alloc, disk, &mut draft, set, first, behind, day)?;
-    store.keep_segment(alloc, disk, draft, day)?;
+    let (draft, place) = draft_day(alloc, disk, name, set, first, behind, day)?;
+    draft.keep(alloc, disk, day)?;
     Ok(place)
 }
 
@@ -174,30 +179,25 @@ fn write_day<D: Disk>(
 fn write_share<D: Disk>(
     alloc: Global,
     disk: &mut D,
-    store: &mut RecordStore,
+    name: DraftName,
     set: &PagedArchive,
     total: u64,
     first: &EntryView<'_>,
     behind: Place,
-) -> Result<(bool, Place), CheckpointFault>
+) -> Result<(bool, Place), KeepFault>
     ensures wrote { IfOk result (λ r. WritesShare (D.tells disk.new) total (D.state disk.old)
         (D.state disk.new) r.0 (entry_of first.now ∷ entries_from set.now behind)
         (entries_from set.now r.1)) }
 
     // whatever the result is: so at every moment
-    ensures stands { D.tells disk.new → IsSound (D.state disk.old) → (sets : Sets)
-        → JournalStands store.old (D.state disk.old) sets
-        → IsArchive ENTRY_MAX (entry_of first.now ∷ entries_from set.now behind)
-        → AreAmong (entry_of first.now ∷ entries_from set.now behind) sets.received
-        → JournalStands store.new (D.state disk.new) sets }
+    ensures gains { GainsAmong (D.tells disk.new) (D.state disk.old) (D.state disk.new) (octets_of name)
+        (entry_of first.now ∷ entries_from set.now behind) }
     ensures grows { D.tells disk.new → IsSound (D.state disk.old) → GrowsBy total
         (length (text_of (entry_of first.now ∷ entries_from set.now behind)))
         (D.state disk.old) (D.state disk.new) }
 
-    ensures number { number_of store.new ≡ number_of store.old }
-    ensures goes_on { OnOk result (IsStoreBroken store.new → IsStoreBroken store.old) }
     ensures told { D.tells disk.new → D.tells disk.old }
-    ensures cause { IfErr result (IsWritingCause (D.tells disk.new) (D.has_failed disk.new)
+    ensures cause { IfErr result (IsKeepingCause (D.tells disk.new) (D.has_failed disk.new)
         (IsSound (D.state disk.old)) (D.state disk.new)) }
 {
     let day = day_of(alloc, first.instant)?;
@@ -205,7 +205,7 @@ fn write_share<D: Disk>(
     if !is_share(total, len) {
         return Ok((false, next));
     }
-    let place = write_day(alloc, disk, store, set, first, behind, &day)?;
+    let place = write_day(alloc, disk, name, set, first, behind, &day)?;
     Ok((true, place))
 }
 
@@ -220,31 +220,27 @@ fn is_skipped(before: bool, wrote: bool) -> bool
 pub(crate) fn write_days<D: Disk>(
     alloc: Global,
     disk: &mut D,
-    store: &mut RecordStore,
+    name: DraftName,
     set: &PagedArchive,
     total: u64,
-) -> Result<bool, CheckpointFault>
-    ensures wrote { IfOk result (λ skipped. WritesDays (D.tells disk.new) total store.old
-        (D.state disk.old) (D.state disk.new) skipped (entries_in set.now) []) }
+) -> Result<bool, KeepFault>
+    ensures wrote { IfOk result (λ skipped. WritesDays (D.tells disk.new) total (D.state disk.old)
+        (D.state disk.new) skipped (entries_in set.now) []) }
 
     // whatever the result is: so at every moment
-    ensures stands { D.tells disk.new → (sets : Sets) → IsWhole store.old
-        → JournalStands store.old (D.state disk.old) sets → AreAmong (entries_in set.now) sets.received
-        → JournalStands store.new (D.state disk.new) sets }
-    ensures grows { D.tells disk.new → IsWhole store.old
-        → StandsWith store.old (D.state disk.old) (entries_in set.now) → GrowsBy total
+    ensures gains { D.tells disk.new → IsSound (D.state disk.old)
+        → GainsOnly (D.state disk.old) (D.state disk.new) (octets_of name) (entries_in set.now) }
+    ensures grows { D.tells disk.new → IsSound (D.state disk.old) → GrowsBy total
         (length (text_of (entries_in set.now))) (D.state disk.old) (D.state disk.new) }
 
-    ensures number { number_of store.new ≡ number_of store.old }
-    ensures goes_on { OnOk result (IsStoreBroken store.new → IsStoreBroken store.old) }
     ensures told { D.tells disk.new → D.tells disk.old }
-    ensures cause { IfErr result (IsWritingCause (D.tells disk.new) (D.has_failed disk.new)
-        (IsWhole store.old × StandsWith store.old (D.state disk.old) (entries_in set.now)) (D.state disk.new)) }
+    ensures cause { IfErr result (IsKeepingCause (D.tells disk.new) (D.has_failed disk.new)
+        (IsSound (D.state disk.old)) (D.state disk.new)) }
 {
     let mut skipped = false;
     let mut place = Place::first();
     'days: while let Some((entry, behind)) = set.next(place) {
-        let (wrote, next) = write_share(alloc, disk, store, set, total, &entry, behind)?;
+        let (wrote, next) = write_share(alloc, disk, name, set, total, &entry, behind)?;
         skipped = is_skipped(skipped, wrote);
         place = next;
     }

@@ -63,8 +63,8 @@ pub(crate) fn next_of<'a>(
     }
 }
 
-// How many octets of an archive an entry has.
-fn entry_len(octets: &[u8]) -> u64
+/// How many octets the entry of these canonical octets has in the text of an archive.
+pub fn entry_len(octets: &[u8]) -> u64
     ensures { result ≡ at_most_all (length (framed Counted octets.now)) }
 {
     let count = Buffer::new().format(octets.len()).len() as u64;

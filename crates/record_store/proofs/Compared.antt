@@ -16,11 +16,11 @@ use Rattle.record_store.specs.Holdings.{HeldAt}
 use Rattle.record_store.specs.Keeping.{AgreeAt, AgreeFrom, AreSame, Brings, Puts, ShowsAtMost}
 use Rattle.record_store.specs.Names.{Counts, IsSegment}
 use Rattle.record_store.specs.Puts.{KeepsOrSettlesApart, LeavesOldOr, ShowsOldOr}
-use Rattle.record_store.specs.Segments.{IsSegmentOf, JournalsSettle, ShowsNoMore}
+use Rattle.record_store.specs.Segments.{IsSegmentOf, OthersSettle, ShowsNoMore}
 use Rattle.record_store.specs.Stores.{AreAmong}
 use Rattle.record_store.proofs.Apart.{segments_less}
 use Rattle.record_store.proofs.Covering.{unchanged_keeps}
-use Rattle.record_store.proofs.Drafted.{journals_settle, segment_keeps, segment_no_more, segment_still}
+use Rattle.record_store.proofs.Drafted.{segment_keeps, segment_no_more, segment_still}
 use Rattle.record_store.proofs.Leavings.{shown_file}
 
 -- ---- states that are one
@@ -183,9 +183,10 @@ module _ (old new : State) (draft name day text : List ℕ) (es : List Entry) (s
       segment_keeps old new draft name day text es segment is (no_more old day name text es segment is puts.shown) apart
       puts.leaves puts.others committed received among keeps
 
-  pub brought_journals : Brings old new draft name text → JournalsSettle old new
-  brought_journals (inl same) n small = inl (same.entries _)
-  brought_journals (inr puts) n small = journals_settle old new draft name day segment apart puts.others n small
+  pub brought_others : Brings old new draft name text → OthersSettle old new draft
+  brought_others (inl same) other differs none = inl (same.entries other)
+  brought_others (inr puts) other differs none =
+      puts.others other differs (λ (same : other ≡ name). none day (subst (IsSegment day) (sym same) segment))
 
   pub brought_still : Brings old new draft name text → (held : List Entry) → HeldApart old held → HeldApart new held
   brought_still (inl same) held holds e has =

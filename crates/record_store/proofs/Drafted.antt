@@ -13,7 +13,7 @@ use Rattle.record_store.specs.Holdings.{AreEntries, HeldAt}
 use Rattle.record_store.specs.Names.{Counts, IsSegment, journal_name}
 use Rattle.record_store.specs.Shown.{journal_shown}
 use Rattle.record_store.specs.Puts.{KeepsOrSettlesApart, LeavesOldOr}
-use Rattle.record_store.specs.Segments.{HoldsNoMore, IsSegmentOf, JournalsSettle, ShowsNoMore}
+use Rattle.record_store.specs.Segments.{HoldsNoMore, IsSegmentOf, JournalsSettle, OthersSettle, ShowsNoMore}
 use Rattle.record_store.specs.Stores.{AreAmong, IsReady, Sets, Stands}
 use Rattle.record_store.specs.declared.store.RecordStore.{RecordStore}
 use Rattle.record_store.proofs.Apart.{same_journals, segments_covered, segments_less, within_then}
@@ -201,6 +201,12 @@ aside_stands old new draft others apart lost store sets stands =
     refl refl refl
     (λ whole. (whole, lost ∙ (stands.ready whole).stands.sound))
     (λ sound. sym lost ∙ sound)
+
+pub others_journals : (old new : State) (draft : List ℕ) → ¬ (Counts draft) → OthersSettle old new draft
+    → JournalsSettle old new
+others_journals old new draft apart others n small =
+    others (journal_name n) (λ same. apart (subst Counts same (journal_counts n small)))
+    (λ day segment. not_both day (journal_name n) (record { number = n; small = small; name_is = refl }) segment)
 
 pub journals_settle : (old new : State) (draft name day : List ℕ) → IsSegment day name → ¬ (Counts draft)
     → KeepsOrSettlesApart old new draft name → JournalsSettle old new

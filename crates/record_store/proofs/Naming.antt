@@ -14,7 +14,7 @@ use Rattle.octet_language.proofs.Lists.{AllByRecursion-append}
 use Rattle.disk.specs.Names.{IsFileName, IsNameOctet}
 use Rattle.archive_text.proofs.Members.{all_weaker}
 use Rattle.record_store.specs.Asides.{aside_name}
-use Rattle.record_store.specs.Names.{IsDayName, IsHexadecimal, draft_name, journal_name}
+use Rattle.record_store.specs.Names.{IsDayName, IsHexadecimal, journal_name}
 use Rattle.record_store.specs.Segments.{segment_name}
 use Rattle.record_store.proofs.Named.{journal_length}
 
@@ -159,12 +159,13 @@ segment_is_name day hex long are is =
           (all_of IsNameOctet (codes ".archive") ending_octets);
     }
 
--- a segment is not called as a draft is
-pub segment_no_draft : (period text : List ℕ) → segment_name period text ≢ draft_name
-segment_no_draft period text same =
+-- a segment has no short name, as that of a draft is
+pub segment_not_short : (period text name : List ℕ) → length name < 73 → segment_name period text ≢ name
+segment_not_short period text name short same =
     let hex = encode_lower (sha256 text) in
     omega (
       arith,
+      short,
       ap length same,
       length-append (period ++ 46 ∷ hex) (codes ".archive"),
       length-append period (46 ∷ hex),

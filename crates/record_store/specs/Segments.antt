@@ -67,6 +67,11 @@ JournalsSettle old new = (n : ℕ) → n < 2 ^ 64
     → (new.entries (journal_name n) ≡ old.entries (journal_name n))
     ⊎ (new.entries (journal_name n) ≡ kept (old.entries (journal_name n)))
 
+-- each name but that of a draft is so, unless it is a segment's
+abbrev pub OthersSettle : State → State → List ℕ → Type 0
+OthersSettle old new draft = (other : List ℕ) → other ≢ draft → ((period : List ℕ) → ¬ (IsSegment period other))
+    → (new.entries other ≡ old.entries other) ⊎ (new.entries other ≡ kept (old.entries other))
+
 -- what has to be so where a segment is not finished
 abbrev pub IsSegmentCause : Type 0 → Type 0 → State → List ℕ → List ℕ → SegmentFault → Type 0
 IsSegmentCause tells failed state draft day (Disk fault) = IsDraftCause tells failed state draft fault

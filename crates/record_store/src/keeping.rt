@@ -184,7 +184,7 @@ impl SegmentDraft {
     ghost use Rattle.record_store.specs.Crashes.{HeldApart, Keeps};
     ghost use Rattle.record_store.specs.Keeping.{IsDraftOf, IsKeepCause, IsTaken};
     ghost use Rattle.record_store.specs.Names.{Counts};
-    ghost use Rattle.record_store.specs.Segments.{Drafts, GrowsBeside, JournalsSettle, draft_of};
+    ghost use Rattle.record_store.specs.Segments.{Drafts, GrowsBeside, OthersSettle, draft_of};
     ghost use Rattle.record_store.specs.Segments.{segment_name};
     /// Brings the segment to the disk under its name, `DAY.HEX.archive` with the SHA-256 of its
     /// octets, as `finish` does, but looks first at what is there: a file of these octets is
@@ -203,9 +203,9 @@ impl SegmentDraft {
             → IsDraftOf self (D.state disk.old) day.now es received
             → Keeps (D.state disk.old) committed received
             → Keeps (D.state disk.new) committed received }
-        ensures journals { D.tells disk.new → (es received : List Entry)
+        ensures others { D.tells disk.new → (es received : List Entry)
             → IsDraftOf self (D.state disk.old) day.now es received
-            → JournalsSettle (D.state disk.old) (D.state disk.new) }
+            → OthersSettle (D.state disk.old) (D.state disk.new) (draft_of self) }
         ensures still_held { D.tells disk.new → (es received : List Entry)
             → IsDraftOf self (D.state disk.old) day.now es received
             → (others : List Entry) → HeldApart (D.state disk.old) others

@@ -1,8 +1,8 @@
-use Rattle.std.proofs.Common.{◌≡◌, List, ℕ, ap, arith, rules, subst, sym, ◌∙◌, refl}
+use Rattle.std.proofs.Common.{arith, rules, subst, ◌∙◌, refl}
 use Rattle.std.proofs.lemmas.Grind.{common_steps}
-use Rattle.record_store.specs.Asides.{IsAside, aside_causes, aside_name}
+use Rattle.record_store.specs.Asides.{IsAside, aside_name}
 use Rattle.record_store.specs.Causes.{IsCause, reading_causes}
-use Rattle.record_store.proofs.Asides.{counted_keeps, others_counted}
+use Rattle.record_store.proofs.Asides.{counted_keeps}
 use Rattle.durable_store.proofs.Asides.{aside_fails, aside_leaves, aside_shown, cut_aside, cut_beside, cut_fails}
 use Rattle.durable_store.proofs.Readable.{at_err}
 use Rattle.durable_store.proofs.aside.put_aside.Goals as goal

@@ -1,4 +1,4 @@
-use Rattle.std.proofs.Common.{List, ℕ, subst}
+use Rattle.std.proofs.Common.{subst}
 use Rattle.durable_store.specs.Segments.{KeepsAside}
 use Rattle.durable_store.proofs.Daily.{removed_aside}
 use Rattle.durable_store.proofs.mixed.drop_draft.Goals as goal
@@ -7,5 +7,5 @@ pub returns-clause-aside : goal.returns-clause-aside
 returns-clause-aside g c tells =
     let zero = g.D.Disk.state c.args.disk.now in
     let new = g.D.Disk.state c.remove.new.self in
-    subst (λ (n : List ℕ). KeepsAside zero new n) c.in-Ok.ensures.name
-    (removed_aside zero new c.in-Ok.name c.remove.result (c.remove.ensures.done tells))
+    subst (KeepsAside zero new) c.in-Ok.ensures
+    (removed_aside zero new c.in-Ok.file c.remove.result (c.remove.ensures.done tells))

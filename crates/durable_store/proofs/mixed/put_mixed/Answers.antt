@@ -5,9 +5,8 @@ use Rattle.archive_pages.specs.Paged.{entries_from, entries_in}
 use Rattle.record_store.specs.Segments.{Drafts, draft_of}
 use Rattle.durable_store.specs.Segments.{KeepsAside}
 use Rattle.record_store.specs.declared.keeping.KeepFault.TheVariants.{Disk}
-use Rattle.durable_store.specs.declared.fault.CheckpointFault.TheVariants.{Segment}
 use Rattle.durable_store.proofs.Daily.{aside_none, aside_then, days_shorter, written_drafts}
-use Rattle.durable_store.proofs.Failing.{draft_cause, writing_less}
+use Rattle.durable_store.proofs.Failing.{draft_cause, keeping_less}
 use Rattle.durable_store.proofs.Mixing.{mixed_all, mixed_more, none_mixed}
 use Rattle.durable_store.proofs.Readable.{at_err}
 use Rattle.durable_store.proofs.mixed.put_mixed.Goals as goal
@@ -53,7 +52,7 @@ returns-in_err-place-clause-cause g c =
     let put = c.days.invariant.put in
     let fault = c.in_err-place.field-0.0 in
     at_err c.from_residual.result fault _ c.from_residual.ensures.1
-    (writing_less (g.D.Disk.tells c.mix_day.new.disk) (g.D.Disk.has_failed c.mix_day.new.disk)
+    (keeping_less (g.D.Disk.tells c.mix_day.new.disk) (g.D.Disk.has_failed c.mix_day.new.disk)
     ((text : List ℕ) × Drafts c.days.draft then text) (Drafts c.args.draft.now zero [])
     (g.D.Disk.state c.mix_day.new.disk) fault
     (λ tell known.
@@ -75,7 +74,7 @@ returns-in_err-push-clause-cause g c =
     let then = g.D.Disk.state c.days.disk in
     let put = c.days.invariant.put in
     let fault = c.in_err-push.field-0.0 in
-    at_err c.from_residual-in_err-push.result (Segment (Disk fault)) _ c.from_residual-in_err-push.ensures.1
+    at_err c.from_residual-in_err-push.result (Disk fault) _ c.from_residual-in_err-push.ensures.1
     (draft_cause (g.D.Disk.tells c.push.new.disk) (g.D.Disk.has_failed c.push.new.disk) (Drafts c.args.draft.now zero [])
     then (g.D.Disk.state c.push.new.disk) c.days.draft fault
     (λ tell known.

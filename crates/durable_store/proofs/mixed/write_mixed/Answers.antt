@@ -1,188 +1,71 @@
-use Rattle.std.proofs.Common.{[], refl, subst, arith}
+use Rattle.std.proofs.Common.{arith}
 use Rattle.std.specs.Prelude.{codes}
-use Rattle.archive_pages.specs.Paged.{entries_in}
 use Rattle.archive_text.specs.Text.{text_of}
+use Rattle.archive_pages.specs.Paged.{entries_in}
 use Rattle.journal.specs.Journals.{IsSound}
-use Rattle.record_store.specs.Segments.{Drafts}
 use Rattle.record_store.proofs.Remaining.{beside_less}
-use Rattle.durable_store.specs.Segments.{KeepsAside}
-use Rattle.durable_store.specs.declared.fault.CheckpointFault.TheVariants.{Segment}
-use Rattle.durable_store.proofs.Daily.{aside_on, aside_then, kept_grow, kept_held, kept_stands, kept_still}
-use Rattle.durable_store.proofs.Failing.{kept_cause, mixed_is_name, writing_less}
+use Rattle.durable_store.specs.Segments.{octets_of}
+use Rattle.durable_store.proofs.Daily.{aside_gains, both_ok, err_weaker, kept_gains, kept_grow, kept_held, kept_sound, name_apart}
+use Rattle.durable_store.proofs.Failing.{kept_cause, mixed_is_name}
 use Rattle.durable_store.proofs.Growth.{aside_grow}
-use Rattle.durable_store.proofs.Mixing.{mixed_drafted}
-use Rattle.durable_store.proofs.Readable.{at_err}
 use Rattle.durable_store.proofs.mixed.write_mixed.Goals as goal
 
-pub returns-in_err-put_mixed-clause-stands : goal.returns-in_err-put_mixed-clause-stands
-returns-in_err-put_mixed-clause-stands g c tells sound sets stands archive among =
-    let zero = g.D.Disk.state c.args.disk.now in
-    let one = g.D.Disk.state c.begin.new.disk in
-    let two = g.D.Disk.state c.put_mixed.new.disk in
-    let told = c.put_mixed.ensures.told tells in
-    aside_on zero two c.in_ok-draft_name.field-0 c.args.store.now sets
-    (aside_then zero one two c.in_ok-draft_name.field-0
-    (record { others = c.begin.ensures.others told; lost = c.begin.ensures.lost told })
-    (subst (KeepsAside one two) c.in_ok-draft.ensures.name (c.put_mixed.ensures.aside tells)))
-    c.in_ok-draft_name.ensures.apart stands
+pub returns-in_err-draft_mixed-clause-gains : goal.returns-in_err-draft_mixed-clause-gains
+returns-in_err-draft_mixed-clause-gains g c tells sound =
+    aside_gains (g.D.Disk.state c.args.disk.now) (g.D.Disk.state c.draft_mixed.new.disk) (octets_of c.args.name)
+    (entries_in c.args.set.now) (c.draft_mixed.ensures.aside tells) (name_apart c.args.name)
 
-pub returns-in_err-put_mixed-clause-segments : goal.returns-in_err-put_mixed-clause-segments
-returns-in_err-put_mixed-clause-segments g c tells sound =
-    let zero = g.D.Disk.state c.args.disk.now in
-    let one = g.D.Disk.state c.begin.new.disk in
-    let two = g.D.Disk.state c.put_mixed.new.disk in
-    let told = c.put_mixed.ensures.told tells in
-    beside_less 0 1 zero two (omega arith)
-    (aside_grow zero two c.in_ok-draft_name.field-0
-    (aside_then zero one two c.in_ok-draft_name.field-0
-    (record { others = c.begin.ensures.others told; lost = c.begin.ensures.lost told })
-    (subst (KeepsAside one two) c.in_ok-draft.ensures.name (c.put_mixed.ensures.aside tells)))
-    c.in_ok-draft_name.ensures.apart)
+pub returns-in_err-draft_mixed-clause-segments : goal.returns-in_err-draft_mixed-clause-segments
+returns-in_err-draft_mixed-clause-segments g c tells sound =
+    beside_less 0 1 (g.D.Disk.state c.args.disk.now) (g.D.Disk.state c.draft_mixed.new.disk) (omega arith)
+    (aside_grow (g.D.Disk.state c.args.disk.now) (g.D.Disk.state c.draft_mixed.new.disk) (octets_of c.args.name)
+    (c.draft_mixed.ensures.aside tells) (name_apart c.args.name))
 
-pub returns-in_err-draft-clause-segments : goal.returns-in_err-draft-clause-segments
-returns-in_err-draft-clause-segments g c tells sound =
-    let zero = g.D.Disk.state c.args.disk.now in
-    let one = g.D.Disk.state c.begin.new.disk in
-    beside_less 0 1 zero one (omega arith)
-    (aside_grow zero one c.in_ok-draft_name.field-0
-    (record { others = c.begin.ensures.others tells; lost = c.begin.ensures.lost tells }) c.in_ok-draft_name.ensures.apart)
-
-pub returns-in_err-put_mixed-clause-cause : goal.returns-in_err-put_mixed-clause-cause
-returns-in_err-put_mixed-clause-cause g c =
-    let two = g.D.Disk.state c.put_mixed.new.disk in
-    let fault = c.in_err-put_mixed.field-0.0 in
-    at_err c.from_residual-in_err-put_mixed.result fault _ c.from_residual-in_err-put_mixed.ensures.1
-    (writing_less (g.D.Disk.tells c.put_mixed.new.disk) (g.D.Disk.has_failed c.put_mixed.new.disk)
-    (Drafts c.in_ok-draft.draft (g.D.Disk.state c.begin.new.disk) []) (IsSound (g.D.Disk.state c.args.disk.now)) two fault
-    (λ tell sound. c.in_ok-draft.ensures.begun (c.put_mixed.ensures.told tell) sound) c.in_err-put_mixed.ensures.cause)
-
-pub returns-in_err-keep_segment-clause-cause : goal.returns-in_err-keep_segment-clause-cause
-returns-in_err-keep_segment-clause-cause g c =
-    let zero = g.D.Disk.state c.args.disk.now in
-    let two = g.D.Disk.state c.put_mixed.new.disk in
-    let three = g.D.Disk.state c.keep_segment.new.disk in
-    let fault = c.in_err-keep_segment.field-0.0 in
-    let put = c.in_ok-put_mixed.ensures.put in
-    at_err c.from_residual-in_err-keep_segment.result (Segment fault) _ c.from_residual-in_err-keep_segment.ensures.1
-    (kept_cause (g.D.Disk.tells c.keep_segment.new.disk) (g.D.Disk.has_failed c.keep_segment.new.disk) (IsSound zero) two
-    three c.put_mixed.new.draft (codes "mixed") fault mixed_is_name
-    (λ tell sound.
-    let told = c.keep_segment.ensures.told tell in (
-      text_of put.mixed,
-      put.drafts told (c.in_ok-draft.ensures.begun (c.put_mixed.ensures.told told) sound),
-    ))
-    c.in_err-keep_segment.ensures.cause)
-
-pub returns-in_err-keep_segment-clause-stands : goal.returns-in_err-keep_segment-clause-stands
-returns-in_err-keep_segment-clause-stands g c tells sound sets stands archive among =
-    let zero = g.D.Disk.state c.args.disk.now in
-    let one = g.D.Disk.state c.begin.new.disk in
-    let two = g.D.Disk.state c.put_mixed.new.disk in
-    let three = g.D.Disk.state c.keep_segment.new.disk in
-    let all = entries_in c.args.set.now in
-    let put = c.in_ok-put_mixed.ensures.put in
-    let drafted = mixed_drafted zero one two (g.D.Disk.tells c.keep_segment.new.disk)
-    (g.D.Disk.tells c.put_mixed.new.disk) c.args.total c.in_ok-draft.draft c.put_mixed.new.draft
-    c.in_ok-draft_name.field-0 (codes "mixed") all c.keep_segment.ensures.told refl c.in_ok-draft_name.ensures.apart
-    (λ told sound. c.in_ok-draft.ensures.begun (c.put_mixed.ensures.told told) sound)
-    (λ told. record {
-      others = c.begin.ensures.others (c.put_mixed.ensures.told told);
-      lost = c.begin.ensures.lost (c.put_mixed.ensures.told told);
-    })
-    c.put_mixed.ensures.aside put c.in_ok-draft.ensures.name c.put_mixed.ensures.name in
-    kept_stands zero two three (g.D.Disk.tells c.keep_segment.new.disk) c.args.store.now c.keep_segment.new.self
-    c.put_mixed.new.draft (codes "mixed") put.mixed all drafted
-    (c.keep_segment.ensures.stands tells) tells sound sets stands archive among
-
-pub returns-in_err-keep_segment-clause-segments : goal.returns-in_err-keep_segment-clause-segments
-returns-in_err-keep_segment-clause-segments g c tells sound =
-    let zero = g.D.Disk.state c.args.disk.now in
-    let one = g.D.Disk.state c.begin.new.disk in
-    let two = g.D.Disk.state c.put_mixed.new.disk in
-    let three = g.D.Disk.state c.keep_segment.new.disk in
-    let all = entries_in c.args.set.now in
-    let put = c.in_ok-put_mixed.ensures.put in
-    let drafted = mixed_drafted zero one two (g.D.Disk.tells c.keep_segment.new.disk)
-    (g.D.Disk.tells c.put_mixed.new.disk) c.args.total c.in_ok-draft.draft c.put_mixed.new.draft
-    c.in_ok-draft_name.field-0 (codes "mixed") all c.keep_segment.ensures.told refl c.in_ok-draft_name.ensures.apart
-    (λ told sound. c.in_ok-draft.ensures.begun (c.put_mixed.ensures.told told) sound)
-    (λ told. record {
-      others = c.begin.ensures.others (c.put_mixed.ensures.told told);
-      lost = c.begin.ensures.lost (c.put_mixed.ensures.told told);
-    })
-    c.put_mixed.ensures.aside put c.in_ok-draft.ensures.name c.put_mixed.ensures.name in
-    kept_grow zero two three (g.D.Disk.tells c.keep_segment.new.disk) c.args.store.now c.keep_segment.new.self
-    c.put_mixed.new.draft (codes "mixed") put.mixed all drafted
-    c.keep_segment.ensures.segments tells sound
-
-pub returns-clause-stands : goal.returns-clause-stands
-returns-clause-stands g c tells sound sets stands archive among =
-    let zero = g.D.Disk.state c.args.disk.now in
-    let one = g.D.Disk.state c.begin.new.disk in
-    let two = g.D.Disk.state c.put_mixed.new.disk in
-    let three = g.D.Disk.state c.keep_segment.new.disk in
-    let all = entries_in c.args.set.now in
-    let put = c.in_ok-put_mixed.ensures.put in
-    let drafted = mixed_drafted zero one two (g.D.Disk.tells c.keep_segment.new.disk)
-    (g.D.Disk.tells c.put_mixed.new.disk) c.args.total c.in_ok-draft.draft c.put_mixed.new.draft
-    c.in_ok-draft_name.field-0 (codes "mixed") all c.keep_segment.ensures.told refl c.in_ok-draft_name.ensures.apart
-    (λ told sound. c.in_ok-draft.ensures.begun (c.put_mixed.ensures.told told) sound)
-    (λ told. record {
-      others = c.begin.ensures.others (c.put_mixed.ensures.told told);
-      lost = c.begin.ensures.lost (c.put_mixed.ensures.told told);
-    })
-    c.put_mixed.ensures.aside put c.in_ok-draft.ensures.name c.put_mixed.ensures.name in
-    kept_stands zero two three (g.D.Disk.tells c.keep_segment.new.disk) c.args.store.now c.keep_segment.new.self
-    c.put_mixed.new.draft (codes "mixed") put.mixed all drafted
-    (c.keep_segment.ensures.stands tells) tells sound sets stands archive among
+pub returns-clause-gains : goal.returns-clause-gains
+returns-clause-gains g c tells sound =
+    kept_gains (g.D.Disk.state c.args.disk.now) (g.D.Disk.state c.draft_mixed.new.disk)
+    (g.D.Disk.state c.keep.new.disk) (g.D.Disk.tells c.keep.new.disk) (g.D.Disk.tells c.draft_mixed.new.disk)
+    (octets_of c.args.name) c.in_ok-draft_mixed.field-0 (codes "mixed") c.in_ok-draft_mixed.ensures.drafted.mixed
+    (entries_in c.args.set.now) c.keep.ensures.told (name_apart c.args.name) c.in_ok-draft_mixed.ensures.drafted.drafts
+    c.keep.ensures.any_moment c.keep.ensures.others c.keep.ensures.still_held tells sound
+    c.args.set.now.paged.archive
 
 pub returns-clause-segments : goal.returns-clause-segments
-returns-clause-segments g c tells sound =
-    let zero = g.D.Disk.state c.args.disk.now in
-    let one = g.D.Disk.state c.begin.new.disk in
-    let two = g.D.Disk.state c.put_mixed.new.disk in
-    let three = g.D.Disk.state c.keep_segment.new.disk in
-    let all = entries_in c.args.set.now in
-    let put = c.in_ok-put_mixed.ensures.put in
-    let drafted = mixed_drafted zero one two (g.D.Disk.tells c.keep_segment.new.disk)
-    (g.D.Disk.tells c.put_mixed.new.disk) c.args.total c.in_ok-draft.draft c.put_mixed.new.draft
-    c.in_ok-draft_name.field-0 (codes "mixed") all c.keep_segment.ensures.told refl c.in_ok-draft_name.ensures.apart
-    (λ told sound. c.in_ok-draft.ensures.begun (c.put_mixed.ensures.told told) sound)
-    (λ told. record {
-      others = c.begin.ensures.others (c.put_mixed.ensures.told told);
-      lost = c.begin.ensures.lost (c.put_mixed.ensures.told told);
-    })
-    c.put_mixed.ensures.aside put c.in_ok-draft.ensures.name c.put_mixed.ensures.name in
-    kept_grow zero two three (g.D.Disk.tells c.keep_segment.new.disk) c.args.store.now c.keep_segment.new.self
-    c.put_mixed.new.draft (codes "mixed") put.mixed all drafted
-    c.keep_segment.ensures.segments tells sound
+returns-clause-segments g c =
+    kept_grow (g.D.Disk.state c.args.disk.now) (g.D.Disk.state c.draft_mixed.new.disk)
+    (g.D.Disk.state c.keep.new.disk) (g.D.Disk.tells c.keep.new.disk) (g.D.Disk.tells c.draft_mixed.new.disk)
+    (octets_of c.args.name) c.in_ok-draft_mixed.field-0 (codes "mixed") c.in_ok-draft_mixed.ensures.drafted.mixed
+    (entries_in c.args.set.now) c.keep.ensures.told (name_apart c.args.name) c.in_ok-draft_mixed.ensures.drafted.drafts
+    c.keep.ensures.segments
+
+pub returns-clause-cause : goal.returns-clause-cause
+returns-clause-cause g c =
+    let drafted = c.in_ok-draft_mixed.ensures.drafted in
+    err_weaker _ _
+    (λ fault cause. kept_cause (g.D.Disk.tells c.keep.new.disk) (g.D.Disk.has_failed c.keep.new.disk)
+    (IsSound (g.D.Disk.state c.args.disk.now)) (g.D.Disk.state c.draft_mixed.new.disk) (g.D.Disk.state c.keep.new.disk)
+    c.in_ok-draft_mixed.field-0 (codes "mixed") fault mixed_is_name
+    (λ tell sound. (text_of drafted.mixed, drafted.drafts.drafts (c.keep.ensures.told tell) sound)) cause)
+    c.keep.result c.keep.ensures.cause
 
 pub returns-clause-wrote : goal.returns-clause-wrote
 returns-clause-wrote g c =
-    let zero = g.D.Disk.state c.args.disk.now in
-    let one = g.D.Disk.state c.begin.new.disk in
-    let two = g.D.Disk.state c.put_mixed.new.disk in
-    let three = g.D.Disk.state c.keep_segment.new.disk in
-    let all = entries_in c.args.set.now in
-    let put = c.in_ok-put_mixed.ensures.put in
-    let drafted = mixed_drafted zero one two (g.D.Disk.tells c.keep_segment.new.disk)
-    (g.D.Disk.tells c.put_mixed.new.disk) c.args.total c.in_ok-draft.draft c.put_mixed.new.draft
-    c.in_ok-draft_name.field-0 (codes "mixed") all c.keep_segment.ensures.told refl c.in_ok-draft_name.ensures.apart
-    (λ told sound. c.in_ok-draft.ensures.begun (c.put_mixed.ensures.told told) sound)
-    (λ told. record {
-      others = c.begin.ensures.others (c.put_mixed.ensures.told told);
-      lost = c.begin.ensures.lost (c.put_mixed.ensures.told told);
+    let drafted = c.in_ok-draft_mixed.ensures.drafted in
+    both_ok c.keep.result _ _ _
+    (λ held sound. record {
+      runs = drafted.runs;
+      are = drafted.are;
+      mixed = drafted.mixed;
+      mixes = drafted.mixes;
+      held = λ tell is. kept_held (g.D.Disk.state c.args.disk.now) (g.D.Disk.state c.draft_mixed.new.disk)
+          (g.D.Disk.state c.keep.new.disk) (g.D.Disk.tells c.keep.new.disk) (g.D.Disk.tells c.draft_mixed.new.disk)
+          (octets_of c.args.name) c.in_ok-draft_mixed.field-0 (codes "mixed") c.in_ok-draft_mixed.ensures.drafted.mixed
+          (entries_in c.args.set.now) c.keep.ensures.told (name_apart c.args.name) c.in_ok-draft_mixed.ensures.drafted.drafts
+          held tell is c.args.set.now.paged.archive;
+      sound = λ tell is. kept_sound (g.D.Disk.state c.args.disk.now) (g.D.Disk.state c.draft_mixed.new.disk)
+          (g.D.Disk.state c.keep.new.disk) (g.D.Disk.tells c.keep.new.disk) (g.D.Disk.tells c.draft_mixed.new.disk)
+          (octets_of c.args.name) c.in_ok-draft_mixed.field-0 (codes "mixed") c.in_ok-draft_mixed.ensures.drafted.mixed
+          (entries_in c.args.set.now) c.keep.ensures.told (name_apart c.args.name) c.in_ok-draft_mixed.ensures.drafted.drafts
+          sound tell is c.args.set.now.paged.archive;
     })
-    c.put_mixed.ensures.aside put c.in_ok-draft.ensures.name c.put_mixed.ensures.name in
-    record {
-      runs = put.runs;
-      are = put.are;
-      mixed = put.mixed;
-      mixes = put.mixes;
-      held = kept_held zero two three (g.D.Disk.tells c.keep_segment.new.disk) c.args.store.now c.keep_segment.new.self
-          c.put_mixed.new.draft (codes "mixed") put.mixed all drafted
-          c.in_ok-keep_segment.ensures.held;
-      still = kept_still zero two three (g.D.Disk.tells c.keep_segment.new.disk) c.args.store.now c.keep_segment.new.self
-          c.put_mixed.new.draft (codes "mixed") put.mixed all drafted
-          c.keep_segment.ensures.still_held;
-    }
+    c.keep.ensures.held c.keep.ensures.sound

@@ -1,5 +1,4 @@
-use Rattle.std.proofs.Common.{◌≡◌, List, ℕ, arith, inl, inr, subst, sym, refl, ap, drop, length, ◌∙◌}
-use Rattle.journal.specs.Journals.{EndsAt}
+use Rattle.std.proofs.Common.{List, ℕ, arith, inl, inr, subst, sym, refl, ap, drop, length, ◌∙◌}
 use Rattle.record_store.specs.Holdings.{IsWholeJournal, JournalHas}
 use Rattle.archive_pages.specs.Paged.{entries_in}
 use Rattle.durable_store.specs.Asides.{IsBehind}

@@ -1,11 +1,11 @@
-use Rattle.std.proofs.Common.{◌≡◌, ◌+◌, ◌<◌, ◌^◌, List, ℕ, [], ◌∷◌, ◌++◌, arith, take, sym, ap, subst, ◌∙◌, rules}
+use Rattle.std.proofs.Common.{◌+◌, ◌<◌, ◌^◌, List, ℕ, [], arith, take, sym, subst, ◌∙◌, rules}
 use Rattle.std.specs.Prelude.{Contains, slice_index}
 use Rattle.std.proofs.lemmas.Grind.{common_steps}
 use Rattle.std.specs.List.Sorted.{IsStrictlyIncreasing}
 use Rattle.std.proofs.lemmas.List.{take_all, take_more}
 use Rattle.std.proofs.lemmas.List.Elements.{Contains-push}
 use Rattle.archive_pages.specs.Paged.{entries_in}
-use Rattle.record_store.specs.Causes.{IsCause, listing_causes, opening_causes}
+use Rattle.record_store.specs.Causes.{listing_causes, opening_causes}
 use Rattle.record_store.specs.Shown.{AreShown}
 use Rattle.record_store.proofs.Causing.{cause_weaker}
 use Rattle.record_store.proofs.Compared.{same_then}

@@ -4,9 +4,8 @@ use Rattle.archive_text.specs.Text.{text_of}
 use Rattle.archive_pages.specs.Paged.{entries_from}
 use Rattle.record_store.specs.Segments.{Drafts}
 use Rattle.record_store.specs.declared.keeping.KeepFault.TheVariants.{Disk}
-use Rattle.durable_store.specs.declared.fault.CheckpointFault.TheVariants.{Segment}
 use Rattle.durable_store.proofs.Daily.{day_pushed, written_drafts}
-use Rattle.durable_store.proofs.Failing.{draft_cause, writing_less}
+use Rattle.durable_store.proofs.Failing.{draft_cause, keeping_less}
 use Rattle.durable_store.proofs.Readable.{at_err}
 use Rattle.durable_store.proofs.segments.put_day.Goals as goal
 
@@ -24,7 +23,7 @@ returns-in_err-place-clause-cause g c =
     let zero = g.D.Disk.state c.args.disk.now in
     let fault = c.in_err-place.field-0.0 in
     at_err c.from_residual.result fault _ c.from_residual.ensures.1
-    (writing_less (g.D.Disk.tells c.put_entries.new.disk) (g.D.Disk.has_failed c.put_entries.new.disk)
+    (keeping_less (g.D.Disk.tells c.put_entries.new.disk) (g.D.Disk.has_failed c.put_entries.new.disk)
     ((text : List ℕ) × Drafts c.args.draft.now zero text) (Drafts c.args.draft.now zero [])
     (g.D.Disk.state c.put_entries.new.disk) fault (λ tell known. ([], known)) c.in_err-place.ensures.cause)
 
@@ -34,7 +33,7 @@ returns-in_err-push-clause-cause g c =
     let then = g.D.Disk.state c.put_entries.new.disk in
     let put = c.in_ok-place.ensures.put in
     let fault = c.in_err-push.field-0.0 in
-    at_err c.from_residual-in_err-push.result (Segment (Disk fault)) _ c.from_residual-in_err-push.ensures.1
+    at_err c.from_residual-in_err-push.result (Disk fault) _ c.from_residual-in_err-push.ensures.1
     (draft_cause (g.D.Disk.tells c.push.new.disk) (g.D.Disk.has_failed c.push.new.disk) (Drafts c.args.draft.now zero [])
     then (g.D.Disk.state c.push.new.disk) c.put_entries.new.draft fault
     (λ tell known.

@@ -5,7 +5,7 @@ use Rattle.archive_pages.specs.Paged.{entries_from}
 use Rattle.record_store.specs.Segments.{Drafts, draft_of}
 use Rattle.durable_store.specs.Segments.{KeepsAside}
 use Rattle.durable_store.proofs.Daily.{aside_then, entries_all, entries_first, entries_more, written_drafts}
-use Rattle.durable_store.proofs.Failing.{writing_less}
+use Rattle.durable_store.proofs.Failing.{keeping_less}
 use Rattle.durable_store.proofs.Readable.{at_err}
 use Rattle.durable_store.proofs.segments.put_entries.Goals as goal
 
@@ -53,7 +53,7 @@ returns-in_err-put_entry-2-clause-cause g c =
     let put = c.entries.invariant.put in
     let fault = c.in_err-put_entry-2.field-0.0 in
     at_err c.from_residual-in_err-put_entry-2.result fault _ c.from_residual-in_err-put_entry-2.ensures.1
-    (writing_less (g.D.Disk.tells c.put_entry-in-Some.new.disk) (g.D.Disk.has_failed c.put_entry-in-Some.new.disk)
+    (keeping_less (g.D.Disk.tells c.put_entry-in-Some.new.disk) (g.D.Disk.has_failed c.put_entry-in-Some.new.disk)
     ((text : List ℕ) × Drafts c.entries.draft then text) ((text : List ℕ) × Drafts c.args.draft.now zero text) new fault
     (λ tell known.
     written_drafts (g.D.Disk.tells c.entries.disk) c.args.draft.now zero c.args.buffer.now.items c.entries.draft then

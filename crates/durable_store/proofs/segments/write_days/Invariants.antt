@@ -1,16 +1,14 @@
-use Rattle.std.proofs.Common.{◌≡◌, length}
+use Rattle.std.proofs.Common.{length}
 use Rattle.archive_pages.specs.Paged.{entries_from, entries_in}
-use Rattle.record_store.specs.Stores.{IsBroken, number_of}
+use Rattle.durable_store.specs.Segments.{octets_of}
 use Rattle.durable_store.proofs.Daily.{DaysWritten}
 use Rattle.durable_store.proofs.segments.write_days.Given as goal
 
 abbrev pub invariant-days : goal.invariant-days
 invariant-days g l = record {
   told : g.D.Disk.tells l.disk → g.D.Disk.tells l.fn.disk;
-  number : number_of l.store ≡ number_of l.fn.store;
-  goes_on : IsBroken l.store → IsBroken l.fn.store;
-  written : DaysWritten (g.D.Disk.tells l.disk) l.fn.total l.fn.store (g.D.Disk.state l.fn.disk) l.store
-      (g.D.Disk.state l.disk) l.skipped (entries_in l.set) (entries_from l.set l.place);
+  written : DaysWritten (g.D.Disk.tells l.disk) l.fn.total (octets_of l.fn.name) (g.D.Disk.state l.fn.disk) (g.D.Disk.state l.disk) l.skipped
+      (entries_in l.set) (entries_from l.set l.place);
 }
 
 abbrev pub decreases-days : goal.decreases-days

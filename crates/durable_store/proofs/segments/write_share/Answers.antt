@@ -4,13 +4,19 @@ use Rattle.archive_digest.specs.Periods.{IsIn}
 use Rattle.archive_digest.specs.declared.period.Period.TheVariants.{Day as day_Period}
 use Rattle.archive_text.specs.EntryViews.{entry_of}
 use Rattle.archive_pages.specs.Paged.{entries_from}
-use Rattle.durable_store.proofs.Daily.{share_grows_all, share_kept, share_of, share_skipped}
+use Rattle.durable_store.proofs.Daily.{gains_none, share_grows_all, share_kept, share_of, share_skipped}
 use Rattle.durable_store.proofs.Growth.{nothing_grows}
 use Rattle.durable_store.proofs.segments.write_share.Goals as goal
 
 pub write_day-requires : goal.write_day-requires
 write_day-requires g c =
     subst (λ (d : List ℕ). IsIn day_Period d (entry_of c.args.first.now)) (sym c.deref-2.ensures.value) c.in_ok-day.ensures
+
+pub returns-in_err-day-clause-gains : goal.returns-in_err-day-clause-gains
+returns-in_err-day-clause-gains g c tells sound archive = gains_none (g.D.Disk.state c.args.disk.now) _ _
+
+pub returns-then-not-is_share-clause-gains : goal.returns-then-not-is_share-clause-gains
+returns-then-not-is_share-clause-gains g c tells sound archive = gains_none (g.D.Disk.state c.args.disk.now) _ _
 
 pub returns-in_err-day-clause-grows : goal.returns-in_err-day-clause-grows
 returns-in_err-day-clause-grows g c tells sound = nothing_grows c.args.total _ (g.D.Disk.state c.args.disk.now)

@@ -4,7 +4,7 @@ use Rattle.disk.specs.Memory.{shown_now}
 use Rattle.journal.specs.Journals.{IsOnDisk}
 use Rattle.record_store.specs.Keeping.{Brings}
 use Rattle.record_store.specs.Segments.{segment_name}
-use Rattle.record_store.proofs.Compared.{brought_journals, brought_keeps, brought_still}
+use Rattle.record_store.proofs.Compared.{brought_others, brought_keeps, brought_still}
 use Rattle.record_store.proofs.Differing.{taken_stays}
 use Rattle.record_store.proofs.Drafted.{name_apart, segment_held, shows_of}
 use Rattle.record_store.proofs.Remaining.{brought_beside}
@@ -22,8 +22,8 @@ returns-in_err-bring-clause-any_moment g c tells es committed received of keeps 
     brought_keeps zero new c.args.self.name c.in-Some.name c.args.day.now of.text es segment of.is of.apart brings
     committed received of.among keeps
 
-pub returns-in_err-bring-clause-journals : goal.returns-in_err-bring-clause-journals
-returns-in_err-bring-clause-journals g c tells es received of =
+pub returns-in_err-bring-clause-others : goal.returns-in_err-bring-clause-others
+returns-in_err-bring-clause-others g c tells es received of =
     let zero = g.D.Disk.state c.args.disk.now in
     let new = g.D.Disk.state c.bring.new.disk in
     let file = shows_of zero c.args.self.name of.text of.drafts.shown of.drafts.sound in
@@ -31,7 +31,7 @@ returns-in_err-bring-clause-journals g c tells es received of =
     let differs = name_apart c.args.self.name c.args.day.now c.in-Some.name segment of.apart in
     let brings = subst (λ (t : List ℕ). Brings zero new c.args.self.name c.in-Some.name t) file.2
     (c.bring.ensures.any_moment tells file.0 file.1 differs) in
-    brought_journals zero new c.args.self.name c.in-Some.name c.args.day.now of.text es segment of.is of.apart brings
+    brought_others zero new c.args.self.name c.in-Some.name c.args.day.now of.text es segment of.is of.apart brings
 
 pub returns-in_err-bring-clause-still_held : goal.returns-in_err-bring-clause-still_held
 returns-in_err-bring-clause-still_held g c tells es received of others holds =
@@ -57,8 +57,8 @@ returns-then-branch-clause-any_moment g c tells es committed received of keeps =
     brought_keeps zero new c.args.self.name c.in-Some.name c.args.day.now of.text es segment of.is of.apart brings
     committed received of.among keeps
 
-pub returns-then-branch-clause-journals : goal.returns-then-branch-clause-journals
-returns-then-branch-clause-journals g c tells es received of =
+pub returns-then-branch-clause-others : goal.returns-then-branch-clause-others
+returns-then-branch-clause-others g c tells es received of =
     let zero = g.D.Disk.state c.args.disk.now in
     let new = g.D.Disk.state c.bring.new.disk in
     let file = shows_of zero c.args.self.name of.text of.drafts.shown of.drafts.sound in
@@ -66,7 +66,7 @@ returns-then-branch-clause-journals g c tells es received of =
     let differs = name_apart c.args.self.name c.args.day.now c.in-Some.name segment of.apart in
     let brings = subst (λ (t : List ℕ). Brings zero new c.args.self.name c.in-Some.name t) file.2
     (c.bring.ensures.any_moment tells file.0 file.1 differs) in
-    brought_journals zero new c.args.self.name c.in-Some.name c.args.day.now of.text es segment of.is of.apart brings
+    brought_others zero new c.args.self.name c.in-Some.name c.args.day.now of.text es segment of.is of.apart brings
 
 pub returns-then-branch-clause-still_held : goal.returns-then-branch-clause-still_held
 returns-then-branch-clause-still_held g c tells es received of others holds =
@@ -92,8 +92,8 @@ returns-clause-any_moment g c tells es committed received of keeps =
     brought_keeps zero new c.args.self.name c.in-Some.name c.args.day.now of.text es segment of.is of.apart brings
     committed received of.among keeps
 
-pub returns-clause-journals : goal.returns-clause-journals
-returns-clause-journals g c tells es received of =
+pub returns-clause-others : goal.returns-clause-others
+returns-clause-others g c tells es received of =
     let zero = g.D.Disk.state c.args.disk.now in
     let new = g.D.Disk.state c.bring.new.disk in
     let file = shows_of zero c.args.self.name of.text of.drafts.shown of.drafts.sound in
@@ -101,7 +101,7 @@ returns-clause-journals g c tells es received of =
     let differs = name_apart c.args.self.name c.args.day.now c.in-Some.name segment of.apart in
     let brings = subst (λ (t : List ℕ). Brings zero new c.args.self.name c.in-Some.name t) file.2
     (c.bring.ensures.any_moment tells file.0 file.1 differs) in
-    brought_journals zero new c.args.self.name c.in-Some.name c.args.day.now of.text es segment of.is of.apart brings
+    brought_others zero new c.args.self.name c.in-Some.name c.args.day.now of.text es segment of.is of.apart brings
 
 pub returns-clause-still_held : goal.returns-clause-still_held
 returns-clause-still_held g c tells es received of others holds =
