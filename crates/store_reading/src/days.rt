@@ -141,7 +141,7 @@ fn is_from(to: Instant, day: &Day) -> bool
 }
 
 /// Whether no instant of a day is in a range.
-pub(crate) fn is_outside(range: &InRange, day: &Day) -> bool
+pub fn is_outside(range: &InRange, day: &Day) -> bool
     ensures none { IsTrue result → (e : Entry) → IsOf day.now e → ¬ (IsOfRange range.now e) }
     ensures behind { IfSome range.now.to (λ (to : ℤ). HasInstant day.now → IsFrom to day.now → IsTrue result) }
     ensures inside { result ≡ false → MayMeet range.now day.now }

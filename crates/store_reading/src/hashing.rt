@@ -18,7 +18,7 @@ use std::alloc::{AllocError, Global};
 pub const HEX_LEN: usize = 64;
 
 /// Hashes the text of an entry, and gives the number of its octets.
-pub(crate) fn hash_entry(hasher: &mut Sha256, octets: &[u8]) -> u64
+pub fn hash_entry(hasher: &mut Sha256, octets: &[u8]) -> u64
     ensures hashed { (m : List ℕ) → Holds256 hasher.old m
         → Holds256 hasher.new (m ++ framed Counted octets.now) }
     ensures size { result ≡ position (length (framed Counted octets.now)) }
@@ -32,7 +32,7 @@ pub(crate) fn hash_entry(hasher: &mut Sha256, octets: &[u8]) -> u64
 }
 
 /// The digest of what was hashed, in lower-case hexadecimal.
-pub(crate) fn hexadecimal(hasher: Sha256) -> [u8; HEX_LEN]
+pub fn hexadecimal(hasher: Sha256) -> [u8; HEX_LEN]
     ensures { (text : List ℕ) → Holds256 hasher text → result ≡ encode_lower (sha256 text) }
 {
     let mut hex = [0; HEX_LEN];
@@ -56,7 +56,7 @@ pub fn segment_octets(
 }
 
 /// Whether a name is that of a segment of a period with this digest.
-pub(crate) fn check_digest(
+pub fn check_digest(
     alloc: Global,
     name: &[u8],
     period: &Period,

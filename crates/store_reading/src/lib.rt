@@ -25,10 +25,10 @@ mod segment_check;
 mod source;
 
 pub use day::Day;
-pub use days::next_segment_day;
+pub use days::{is_outside, next_segment_day};
 pub use fault::{CheckFault, FileFault, ReadFault};
 pub use folder::Folder;
-pub use hashing::{HEX_LEN, segment_octets};
+pub use hashing::{HEX_LEN, check_digest, hash_entry, hexadecimal, segment_octets};
 pub use journal_file::{JournalFile, read_journal};
 pub use journals::check_journal;
 pub use law::equal_sets_give_equal_octets;

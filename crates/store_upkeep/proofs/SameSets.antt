@@ -194,7 +194,7 @@ past_or_last (file ∷ past) last octets (inr more) =
     elim (past_or_last past last octets more) [ inl here ↦ inl here | inr before ↦ inr (inr before) ]
 
 -- what a crash leaves of it is what it might have left before, or nothing
-retired_leaves : (entry : DiskEntry) (octets : Option (List ℕ)) → NameMayLeave (retired entry) octets
+pub retired_leaves : (entry : DiskEntry) (octets : Option (List ℕ)) → NameMayLeave (retired entry) octets
     → NameMayLeave entry octets ⊎ (octets ≡ None)
 retired_leaves entry octets (inl now) = inr now
 retired_leaves entry octets (inr (inl past)) =

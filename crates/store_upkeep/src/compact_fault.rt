@@ -61,7 +61,7 @@ impl From<ReadFault> for CompactFault {
 }
 
 /// The fault of a file that could not be written, removed or given its name.
-pub(crate) fn write_fault(alloc: Global, name: &FileName, fault: DiskFault) -> CompactFault
+pub fn write_fault(alloc: Global, name: &FileName, fault: DiskFault) -> CompactFault
     ensures { IsOrNoMemory (CompactFault.Write name.now fault) result }
 {
     match name.copy(alloc) {
@@ -71,7 +71,7 @@ pub(crate) fn write_fault(alloc: Global, name: &FileName, fault: DiskFault) -> C
 }
 
 /// The fault of a file that could not be opened.
-pub(crate) fn open_fault(alloc: Global, name: &FileName, fault: DiskFault) -> CompactFault
+pub fn open_fault(alloc: Global, name: &FileName, fault: DiskFault) -> CompactFault
     ensures { IsOrNoMemory (CompactFault.Read (ReadFault.Open name.now fault)) result }
 {
     match name.copy(alloc) {
@@ -81,7 +81,7 @@ pub(crate) fn open_fault(alloc: Global, name: &FileName, fault: DiskFault) -> Co
 }
 
 /// The fault of a file that was checked.
-pub(crate) fn check_fault(alloc: Global, name: &FileName, fault: CheckFault) -> CompactFault
+pub fn check_fault(alloc: Global, name: &FileName, fault: CheckFault) -> CompactFault
     ensures { IsOrNoMemory (check_told name.now fault) result }
 {
     let Ok(name) = name.copy(alloc) else {

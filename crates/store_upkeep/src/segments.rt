@@ -22,7 +22,7 @@ use store_reading::{
 
 /// The names of all files, those of the segments of a period side by side, in the order of their
 /// octets.
-pub(crate) fn list<D: Disk>(alloc: Global, disk: &mut D) -> Result<Names, CompactFault>
+pub fn list<D: Disk>(alloc: Global, disk: &mut D) -> Result<Names, CompactFault>
     ensures names { IfOk result (λ names. D.tells disk.new → IsSound (D.state disk.old)
         → AreListed (D.state disk.new) names) }
     ensures same { D.tells disk.new → IsUnchanged (D.state disk.old) (D.state disk.new) }
@@ -83,7 +83,8 @@ pub(crate) fn names_of(
     names_of_day(alloc, names.of(period.as_octets()), period)
 }
 
-fn open<D: StreamDisk>(
+/// Opens a file.
+pub fn open<D: StreamDisk>(
     alloc: Global,
     disk: &mut D,
     name: &FileName,
@@ -147,8 +148,8 @@ fn open_segments<D: StreamDisk>(
     Ok(inputs)
 }
 
-// Begins a draft.
-fn begin<D: StreamDisk>(
+/// Begins a draft.
+pub fn begin<D: StreamDisk>(
     alloc: Global,
     disk: &mut D,
     draft: &FileName,
@@ -166,8 +167,8 @@ fn begin<D: StreamDisk>(
     }
 }
 
-// Removes a draft that is not to be kept, as far as the disk lets it.
-fn discard<D: Disk>(disk: &mut D, draft: &FileName)
+/// Removes a draft that is not to be kept, as far as the disk lets it.
+pub fn discard<D: Disk>(disk: &mut D, draft: &FileName)
     ensures others { D.tells disk.new
         → KeepsOthers (D.state disk.old) (D.state disk.new) draft.now }
     ensures told { D.tells disk.new → D.tells disk.old }
@@ -175,8 +176,8 @@ fn discard<D: Disk>(disk: &mut D, draft: &FileName)
     let _ = disk.remove(draft);
 }
 
-// Brings a draft to the disk. One that is not brought there is removed.
-fn settle<D: StreamDisk>(
+/// Brings a draft to the disk. One that is not brought there is removed.
+pub fn settle<D: StreamDisk>(
     alloc: Global,
     disk: &mut D,
     draft: &FileName,
@@ -256,7 +257,7 @@ pub(crate) fn join_segments<D: StreamDisk>(
 
 /// What a draft is called as the segment of a period, by the SHA-256 of its octets, once it was read to its
 /// end.
-pub(crate) fn name_of_draft<D: StreamDisk>(
+pub fn name_of_draft<D: StreamDisk>(
     alloc: Global,
     disk: &mut D,
     draft: &FileName,
