@@ -166,13 +166,14 @@ fn drop_draft<D: Disk>(alloc: Global, disk: &mut D, name: DraftName)
 
 /// Writes the entries of a set as segments: one of each day that has at least a 64th of the octets of
 /// the set's archive, and one, `mixed`, of all other days, so that at most 65 come. Each is a draft of
-/// this name first. A crash at any moment leaves what the folder kept, and nothing else but entries of
-/// the set; once it has returned `Ok`, segments hold each of them, whatever a crash leaves. It can say
-/// so only if no sync has failed since the machine was started.
+/// this name first; what is left of one is removed if the disk lets it, so that it takes no room. A
+/// crash at any moment leaves what the folder kept, and nothing else but entries of the set; once it
+/// has returned `Ok`, segments hold each of them, whatever a crash leaves. It can say so only if no sync
+/// has failed since the machine was started.
 ///
 /// # Errors
 /// The disk's fault, lack of memory, or a damaged file under the name of a segment, which stays. Some
-/// segments may be there; the draft is removed if the disk lets it, so that it takes no room.
+/// segments may be there.
 pub fn write_segments<D: Disk>(
     alloc: Global,
     disk: &mut D,
@@ -194,11 +195,7 @@ pub fn write_segments<D: Disk>(
     ensures cause { IfErr result (IsKeepingCause (D.tells disk.new) (D.has_failed disk.new)
         (IsSound (D.state disk.old)) (D.state disk.new)) }
 {
-    match write_both(alloc, disk, name, set) {
-        Ok(()) => Ok(()),
-        Err(fault) => {
-            drop_draft(alloc, disk, name);
-            Err(fault)
-        }
-    }
+    let written = write_both(alloc, disk, name, set);
+    drop_draft(alloc, disk, name);
+    written
 }

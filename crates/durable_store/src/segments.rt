@@ -1,5 +1,6 @@
 //! The segments of a checkpoint.
-ghost use Rattle.std.specs.Prelude.{◌≡◌, ◌⊎◌, ◌↔◌, ◌++◌, ◌∷◌, [], false, IfErr, IfOk, IsTrue, List, ℕ, length, OnOk};
+ghost use Rattle.std.specs.Prelude.{◌≡◌, ◌⊎◌, ◌↔◌, ◌++◌, ◌∷◌, [], false, IfErr, IfOk, IsTrue, List};
+ghost use Rattle.std.specs.Prelude.{ℕ, length, OnOk};
 ghost use Rattle.syslog_frame.specs.Frames.{framed};
 ghost use Rattle.syslog_frame.specs.declared.framing.Framing.TheVariants.{Counted};
 ghost use Rattle.archive_digest.specs.Periods.{IsIn};

@@ -26,8 +26,8 @@ pub record Counts (added : Addition) (es : List Entry) : Type 0 where
 
 -- Segments hold each of the entries that are done, whatever a crash leaves. A folder that kept what was committed, and
 -- nothing that was not received, keeps these too, and nothing that was neither received nor read. Segments hold what
--- they held; each other file but the draft of the addition, such as a journal and the draft of a server, is as it was, but
--- that it may be on the disk now.
+-- they held; each other file but the draft of the addition, such as a journal and the draft of a server, is as it was,
+-- but that it may be on the disk now.
 pub record TakesIn (old new : State) (done read : List Entry) : Type 0 where
   pub held : HeldApart new done
   pub keeps : (committed received : List Entry) → Keeps old committed received

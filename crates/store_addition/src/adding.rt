@@ -1,6 +1,6 @@
 //! An addition under way.
-ghost use Rattle.std.specs.Prelude.{◌≡◌, ◌<◌, ◌≤◌, ◌∷◌, ◌++◌, [], ℕ, List, false, length, IfErr, IfOk, IsTrue, MatchResult};
-ghost use Rattle.std.specs.Prelude.{OnErr, OnOk};
+ghost use Rattle.std.specs.Prelude.{◌≡◌, ◌<◌, ◌≤◌, ◌∷◌, ◌++◌, [], ℕ, List, false, length, IfErr, IfOk, IsTrue};
+ghost use Rattle.std.specs.Prelude.{MatchResult, OnErr, OnOk};
 ghost use Rattle.disk.specs.States.{State};
 ghost use Rattle.octet_devices.specs.Device.{InputState};
 ghost use Rattle.archive_pages.specs.Paged.{entries_in};
@@ -16,7 +16,8 @@ ghost use Rattle.record_store.specs.Crashes.{HeldApart};
 ghost use Rattle.record_store.specs.Segments.{GrowsBeside};
 ghost use Rattle.store_addition.specs.Additions.{AddsPart, AddsWhole, FailuresAt};
 ghost use Rattle.store_addition.specs.Adding.{Began, Gathering, Halted, HasReader, IsFresh, IsInRoom, IsNext};
-ghost use Rattle.store_addition.specs.Adding.{IsPieceOf, IsRead, KeepsGathered, Takes, UnderWay, WholeRead, Writes};
+ghost use Rattle.store_addition.specs.Adding.{IsPieceOf, IsRead, KeepsGathered, Takes, UnderWay};
+ghost use Rattle.store_addition.specs.Adding.{WholeRead, Writes};
 
 use crate::addition::Addition;
 use crate::fault::AddFault;
