@@ -14,7 +14,7 @@ use syslog_value::Record;
 /// record was there, which it need not know before all are there.
 pub trait RecordSet {
     /// Why a record is not added.
-    type Fault;
+    type Fault: Drop;
 
     // it holds the entries of a list, and no other
     ghost holds: { Self → List Entry → Type 0 };
