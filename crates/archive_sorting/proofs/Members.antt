@@ -1,10 +1,10 @@
 -- What is added to entries, and how long their text is.
-use Rattle.std.proofs.Common.{◌≡◌, ℕ, List, [], ◌∷◌, ◌++◌, sym, subst, inl, inr, arith}
+use Rattle.std.proofs.Common.{◌≡◌, ℕ, zero, suc, ◌+◌, List, [], ◌∷◌, ◌++◌, sym, ap, subst, ◌∙◌, inl, inr, arith, take}
 use Rattle.std.proofs.Common.{◌^◌, ◌*◌, ◌≤◌, ◌<◌, length, length-append}
-use Rattle.std.specs.Prelude.{ℤ, Option, decimal}
+use Rattle.std.specs.Prelude.{slice_index_or, ℤ, Option, decimal}
 use Rattle.std.specs.List.{AllByRecursion}
 use Rattle.std.proofs.lemmas.Fmt.{length-decimal-le}
-use Rattle.std.proofs.lemmas.List.{length-map}
+use Rattle.std.proofs.lemmas.List.{length-map, map-append, take_all, take_more}
 use Rattle.syslog_value.specs.Parts.{Parts}
 use Rattle.syslog_fields.specs.Canonical.{Canonical}
 use Rattle.syslog_grammar.proofs.CanonicalParses.{canonical_once}
@@ -17,7 +17,7 @@ use Rattle.archive_text.specs.declared.limits.TheConstants.{ENTRY_MAX}
 use Rattle.archive_text.proofs.Members.{has_either, has_left, has_right, of_all, of_member}
 use Rattle.archive_text.proofs.Shown.{shown_entry}
 use Rattle.archive_sorting.specs.Settled.{HaveSame}
-use Rattle.archive_sorting.specs.Spans.{entries_at, entry_at}
+use Rattle.archive_sorting.specs.Spans.{entries_at, entry_at, octets_at, ranked}
 use Rattle.archive_sorting.specs.Within.{AreFit, IsFit}
 use Rattle.archive_sorting.specs.declared.arena.Span.{Span}
 
@@ -56,6 +56,39 @@ archive_same xs zs same all up = record {
       of_all (λ e. length e.octets ≤ ENTRY_MAX) zs
       (λ x h. (of_member (IsFit ENTRY_MAX) xs x all ((same x).0 h)).fits);
 }
+
+pub fit_same : (xs zs : List Entry) → HaveSame xs zs → AreFit xs → AreFit zs
+fit_same xs zs same all =
+    of_all (IsFit ENTRY_MAX) zs (λ x h. of_member (IsFit ENTRY_MAX) xs x all ((same x).0 h))
+
+pub same_kept : (xs ys zs : List Entry) → zs ≡ ys → HaveSame xs ys → HaveSame xs zs
+same_kept xs ys zs is same = subst (HaveSame xs) (sym is) same
+
+pub same_through : (xs ys zs : List Entry) → HaveSame xs ys → HaveSame xs zs → HaveSame ys zs
+same_through xs ys zs h k x = (λ has. (h x).1 ((k x).0 has), λ has. (k x).1 ((h x).0 has))
+
+-- ---- entries that are copied
+
+pub fit_at : (blocks : List (List ℕ)) (p : List Span) (i : ℕ) (s : Span) → i < length p → s ≡ slice_index_or p i s
+    → AreFit (entries_at blocks p) → length (octets_at blocks s) ≤ ENTRY_MAX
+fit_at blocks [] i s within read all = absurd (omega (arith, within))
+fit_at blocks (t ∷ p) zero s within read all =
+    subst (λ (u : Span). length (octets_at blocks u) ≤ ENTRY_MAX) (sym read) all.0.fits
+fit_at blocks (t ∷ p) (suc i) s within read all = fit_at blocks p i s (omega (arith, within)) read all.1
+
+pub copied_more : (blocks : List (List ℕ)) (p : List Span) (i : ℕ) (s : Span) (o : List ℕ) (es : List Entry)
+    → i < length p → s ≡ slice_index_or p i s → es ≡ entries_at blocks (take i p) → o ≡ octets_at blocks s
+    → es ++ ranked s.rank o ∷ [] ≡ entries_at blocks (take (i + 1) p)
+copied_more blocks p i s o es within read same is =
+    ap (λ (l : List Entry). l ++ ranked s.rank o ∷ []) same
+    ∙ ap (λ (b : List ℕ). entries_at blocks (take i p) ++ ranked s.rank b ∷ []) is
+    ∙ sym (map-append (entry_at blocks) (take i p) (s ∷ []))
+    ∙ ap (λ (q : List Span). entries_at blocks q)
+    (ap (λ (x : Span). take i p ++ x ∷ []) read ∙ sym (take_more p i s within))
+
+pub copied_all : (blocks : List (List ℕ)) (p : List Span) (i : ℕ) → length p ≤ i
+    → entries_at blocks (take i p) ≡ entries_at blocks p
+copied_all blocks p i end = ap (entries_at blocks) (take_all i p end)
 
 -- ---- records
 

@@ -42,8 +42,12 @@ text_at blocks s = drop s.start (block_at blocks s.block)
 abbrev pub octets_at : List (List ℕ) → Span → List ℕ
 octets_at blocks s = stored_in (text_at blocks s)
 
+-- the entry of a rank and octets
+abbrev pub ranked : ℕ → List ℕ → Entry
+ranked rank octets = record { instant = instant_at rank; octets = octets }
+
 abbrev pub entry_at : List (List ℕ) → Span → Entry
-entry_at blocks s = record { instant = instant_at s.rank; octets = octets_at blocks s }
+entry_at blocks s = ranked s.rank (octets_at blocks s)
 
 abbrev pub entries_at : List (List ℕ) → List Span → List Entry
 entries_at blocks spans = map (entry_at blocks) spans

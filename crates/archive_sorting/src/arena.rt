@@ -2,12 +2,11 @@
 //! behind its length, which takes four octets.
 
 ghost use Rattle.std.specs.Prelude.{◌≡◌, ◌<◌, ◌≤◌, ◌+◌, ◌++◌, ◌^◌, [], length, drop, IfOk};
-ghost use Rattle.archive_text.specs.EntryViews.{entry_of};
 ghost use Rattle.archive_sorting.specs.Spans.{IsWithin, Keeps, block_at, blocks_of};
-ghost use Rattle.archive_sorting.specs.Spans.{entry_at, lists_of, octets_at, stored, stored_in, stored_len};
+ghost use Rattle.archive_sorting.specs.Spans.{entry_at, lists_of, octets_at, ranked, stored, stored_in};
+ghost use Rattle.archive_sorting.specs.Spans.{stored_len};
 
-use crate::rank::rank_of;
-use archive_text::{ENTRY_MAX, EntryView};
+use archive_text::ENTRY_MAX;
 use std::alloc::{AllocError, Global};
 
 // the capacity of a block, which each entry fits
@@ -120,19 +119,24 @@ impl Arena {
         }
     }
 
-    /// Copies the octets of an entry, and gives its span. All other entries stay where they are. It
-    /// fails only when out of memory.
-    pub fn push(&mut self, alloc: Global, entry: &EntryView<'_>) -> Result<Span, AllocError>
-        requires { length entry.now.octets.now ≤ ENTRY_MAX }
+    /// How many blocks there are.
+    pub fn len(&self) -> usize {
+        self.blocks.len()
+    }
+
+    /// Copies the octets of an entry of this rank, and gives its span. All other entries stay where
+    /// they are. It fails only when out of memory.
+    pub fn push(&mut self, alloc: Global, rank: u64, octets: &[u8]) -> Result<Span, AllocError>
+        requires { length octets.now ≤ ENTRY_MAX }
         ensures within { IfOk result (λ s. IsWithin (blocks_of self.new) s) }
-        ensures value { IfOk result (λ s. entry_at (blocks_of self.new) s ≡ entry_of entry.now) }
+        ensures value { IfOk result (λ s. entry_at (blocks_of self.new) s ≡ ranked rank octets.now) }
         ensures keeps { Keeps (blocks_of self.old) (blocks_of self.new) }
     {
-        let size = PREFIX + entry.octets.len();
+        let size = PREFIX + octets.len();
         let block = block_with_room(alloc, &mut self.blocks, size)?;
-        let start = append(&mut self.blocks, block, entry.octets)?;
+        let start = append(&mut self.blocks, block, octets)?;
         Ok(Span {
-            rank: rank_of(entry.instant),
+            rank,
             block: block as u32,
             start: start as u32,
         })

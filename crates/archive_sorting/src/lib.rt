@@ -6,6 +6,7 @@
 #![tactic(auto)]
 
 mod arena;
+mod copying;
 mod laws;
 mod rank;
 mod record_set;

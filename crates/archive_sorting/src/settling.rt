@@ -60,3 +60,16 @@ pub fn settle(arena: &Arena, spans: &mut Vec<Span>)
     sort(arena, spans);
     drop_repeats(arena, spans);
 }
+
+/// Leaves each entry of spans once, as far as there is memory to sort them: beside those that were
+/// sorted before, which are one run, it takes little time.
+pub fn shed(arena: &Arena, spans: &mut Vec<Span>)
+    ensures same { HaveSame (entries_at (blocks_of arena.now) spans.old.items)
+        (entries_at (blocks_of arena.now) spans.new.items) }
+    ensures within { AllByRecursion (IsWithin (blocks_of arena.now)) spans.old.items
+        → AllByRecursion (IsWithin (blocks_of arena.now)) spans.new.items }
+    ensures bound { vec_len spans.new ≤ vec_len spans.old }
+{
+    let _sorted = spans.sort_by(|a, b| compare(arena, *a, *b));
+    drop_repeats(arena, spans);
+}

@@ -4,13 +4,16 @@ ghost use Rattle.std.specs.Prelude.{◌≡◌, ◌<◌, ◌≤◌, ◌++◌, ◌
 ghost use Rattle.archive_text.specs.EntryViews.{entry_of};
 ghost use Rattle.archive_text.specs.Entries.{IsEntry};
 ghost use Rattle.archive_text.specs.declared.limits.TheConstants.{ENTRY_MAX};
+ghost use Rattle.archive_sorting.specs.Settled.{HaveSame};
 ghost use Rattle.archive_sorting.specs.Spans.{blocks_of, entries_at};
 ghost use Rattle.archive_sorting.specs.Within.{IsFit, LieWithin, LieWithin-prop, ShowFit, ShowFit-prop};
 ghost use Rattle.archive_sorting.specs.declared.unsorted.TheConstants.{RECORDS_MAX};
 
 use crate::arena::{Arena, Span};
+use crate::copying::copied;
+use crate::rank::rank_of;
 use crate::record_set::RecordSet;
-use crate::settling::settle;
+use crate::settling::{settle, shed};
 use crate::sorted::SortedArchive;
 use archive_text::{AddFault, ENTRY_MAX, EntryView};
 use std::alloc::{AllocError, Global};
@@ -20,18 +23,54 @@ use syslog_value::Record;
 /// More records than any memory holds.
 pub const RECORDS_MAX: usize = 1_099_511_627_776;
 
+// how many blocks are filled, beside an eighth of those that were left, before repeats are let go of
+const BLOCKS_FILLED: usize = 48;
+
 /// Records as they came, made for millions of them: the canonical octets of each, in blocks of 1 MiB,
-/// and where they lie. A record takes its canonical octets and some 20 to 36 more, each time that it
-/// comes. More than 2^40 records, or 2^32 blocks, are answered as out of memory.
+/// and where they lie. A record takes its canonical octets and some 20 to 36 more. One that comes
+/// again does too, until some 48 MiB came and an eighth of the set. More than 2^40 records, or 2^32
+/// blocks, are answered as out of memory.
 #[derive(Debug, Drop)]
 pub struct UnsortedRecords {
     arena: Arena,
     spans: Vec<Span>,
+    // how many blocks there are when repeats are let go of next
+    limit: usize,
+    // how many records were let go of whose octets are in the arena
+    repeats: usize,
     // the canonical octets of the view that is added
     scratch: Vec<u8>,
     ghost within: { LieWithin arena spans } by { LieWithin-prop arena spans },
     ghost fit: { ShowFit arena spans } by { ShowFit-prop arena spans },
     ghost few: { vec_len spans ≤ RECORDS_MAX },
+}
+
+// Lets go of entries that came more than once, and of the octets of all such where they are more than an
+// eighth; as far as there is memory for that.
+fn shed_repeats(alloc: Global, arena: &mut Arena, spans: &mut Vec<Span>, repeats: &mut usize)
+    requires within { LieWithin arena.old spans.old }
+    requires fit { ShowFit arena.old spans.old }
+    requires few { vec_len spans.old ≤ RECORDS_MAX }
+    ensures within { LieWithin arena.new spans.new }
+    ensures fit { ShowFit arena.new spans.new }
+    ensures few { vec_len spans.new ≤ RECORDS_MAX }
+    ensures same { HaveSame (entries_at (blocks_of arena.old) spans.old.items)
+        (entries_at (blocks_of arena.new) spans.new.items) }
+{
+    let count = spans.len();
+    shed(arena, spans);
+    *repeats = repeats.saturating_add(count.saturating_sub(spans.len()));
+    if *repeats <= spans.len() / 8 {
+        return;
+    }
+    match copied(alloc, arena, spans) {
+        Ok((copy, places)) => {
+            *arena = copy;
+            *spans = places;
+            *repeats = 0;
+        }
+        Err(AllocError) => {}
+    }
 }
 
 // Keeps one more entry, behind the others. It fails only when out of memory.
@@ -53,7 +92,7 @@ fn push_entry(
     ensures err { OnErr result (entries_at (blocks_of arena.new) spans.new.items
         ≡ entries_at (blocks_of arena.old) spans.old.items) }
 {
-    let span = arena.push(alloc, entry)?;
+    let span = arena.push(alloc, rank_of(entry.instant), entry.octets)?;
     spans.push(span)?;
     Ok(())
 }
@@ -92,7 +131,6 @@ fn add_entry(
 
 impl UnsortedRecords {
     ghost use Rattle.archive_sorting.specs.Records.{entries_in, entries_kept};
-    ghost use Rattle.archive_sorting.specs.Settled.{HaveSame};
 
     /// No records. They take no memory.
     pub fn new(alloc: Global) -> UnsortedRecords
@@ -101,8 +139,24 @@ impl UnsortedRecords {
         UnsortedRecords {
             arena: Arena::new(alloc),
             spans: Vec::new(alloc),
+            limit: BLOCKS_FILLED,
+            repeats: 0,
             scratch: Vec::new(alloc),
         }
+    }
+
+    // Lets go of records that came more than once, where many came since that was last done.
+    fn shed(&mut self, alloc: Global)
+        ensures { HaveSame (entries_kept self.old) (entries_kept self.new) }
+    {
+        if self.arena.len() < self.limit {
+            return;
+        }
+        shed_repeats(alloc, &mut self.arena, &mut self.spans, &mut self.repeats);
+        let filled = self.arena.len();
+        self.limit = filled
+            .saturating_add(filled / 8)
+            .saturating_add(BLOCKS_FILLED);
     }
 
     /// The archive of the records: each once, in order. It takes no more memory.
@@ -121,7 +175,6 @@ impl UnsortedRecords {
 impl RecordSet for UnsortedRecords {
     ghost use Rattle.archive_text.specs.Entries.{Entry, Has, IsEntryOf};
     ghost use Rattle.archive_sorting.specs.Records.{entries_kept};
-    ghost use Rattle.archive_sorting.specs.Settled.{HaveSame};
     ghost use Rattle.syslog_value.specs.Parts.{Parts};
     ghost use Rattle.syslog_reading.specs.ViewParts.{IsViewOf, view_parts};
     ghost use Rattle.syslog_reading.specs.WellFormed.{WellFormed};
@@ -141,6 +194,7 @@ impl RecordSet for UnsortedRecords {
         ensures long { IsErrOf result AddFault.TooLong →
             (e : Entry) → IsEntryOf record.now e → ENTRY_MAX < length e.octets }
     {
+        self.shed(alloc);
         let octets = match canon(alloc, record) {
             Ok(octets) => octets,
             Err(AllocError) => return Err(AddFault::Memory),
@@ -165,6 +219,7 @@ impl RecordSet for UnsortedRecords {
             (r : Parts ℤ) (e : Entry) → WellFormed r b → IsEntryOf r e
             → ENTRY_MAX < length e.octets }
     {
+        self.shed(alloc);
         self.scratch.clear();
         if write_canonical_view(alloc, view, &mut self.scratch).is_err() {
             return Err(AddFault::Memory);

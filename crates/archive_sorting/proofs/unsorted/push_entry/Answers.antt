@@ -1,7 +1,9 @@
-use Rattle.std.proofs.Common.{ap, sym, subst, ◌∙◌}
+use Rattle.std.proofs.Common.{ap, refl, sym, subst, ◌∙◌}
 use Rattle.std.specs.List.{AllByRecursion}
 use Rattle.std.proofs.lemmas.Result.{err_from_is_err_and}
-use Rattle.archive_sorting.specs.Spans.{IsWithin, blocks_of, entries_at}
+use Rattle.archive_text.specs.EntryViews.{entry_of}
+use Rattle.archive_text.proofs.Orders.{same_entry}
+use Rattle.archive_sorting.specs.Spans.{IsWithin, blocks_of, entries_at, ranked}
 use Rattle.archive_sorting.specs.Within.{AreFit}
 use Rattle.archive_sorting.proofs.Blocks.{entries_stay}
 use Rattle.archive_sorting.proofs.Members.{fit_pushed}
@@ -32,7 +34,8 @@ returns-clause-within c =
 pub returns-clause-ok : goal.returns-clause-ok
 returns-clause-ok c =
     ap (entries_at (blocks_of c.push.new.self)) c.in_ok-push.ensures.items
-    ∙ entries_pushed _ _ _ _ _ c.push.ensures.keeps c.requires.within c.in_ok-span.ensures.value
+    ∙ entries_pushed _ _ _ _ _ c.push.ensures.keeps c.requires.within (c.in_ok-span.ensures.value
+    ∙ same_entry (ranked c.rank_of.result c.args.entry.now.octets.now) (entry_of c.args.entry.now) c.rank_of.ensures refl)
 
 pub returns-in_err-span-clause-fit : goal.returns-in_err-span-clause-fit
 returns-in_err-span-clause-fit c =
@@ -47,5 +50,6 @@ returns-in_err-push-clause-fit c =
 pub returns-clause-fit : goal.returns-clause-fit
 returns-clause-fit c =
     fit_pushed _ _ _ (ap (entries_at (blocks_of c.push.new.self)) c.in_ok-push.ensures.items
-    ∙ entries_pushed _ _ _ _ _ c.push.ensures.keeps c.requires.within c.in_ok-span.ensures.value) c.requires.fit
+    ∙ entries_pushed _ _ _ _ _ c.push.ensures.keeps c.requires.within (c.in_ok-span.ensures.value
+    ∙ same_entry (ranked c.rank_of.result c.args.entry.now.octets.now) (entry_of c.args.entry.now) c.rank_of.ensures refl)) c.requires.fit
     c.requires.entry

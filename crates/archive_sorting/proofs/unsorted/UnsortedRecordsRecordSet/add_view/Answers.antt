@@ -1,9 +1,10 @@
 use Rattle.std.proofs.Common.{◌∙◌, sym}
-use Rattle.std.proofs.lemmas.Result.{on_ok_weaker}
+use Rattle.std.proofs.lemmas.Result.{on_err_weaker, on_ok_weaker}
 use Rattle.syslog_reading.specs.ViewParts.{view_parts}
 use Rattle.archive_text.specs.declared.limits.TheConstants.{ENTRY_MAX}
 use Rattle.archive_text.proofs.Shown.{shown_alone, shown_entry, shown_long}
-use Rattle.archive_sorting.proofs.Members.{shown_more}
+use Rattle.archive_sorting.specs.Records.{entries_kept}
+use Rattle.archive_sorting.proofs.Members.{same_kept, same_through, shown_more}
 use Rattle.archive_sorting.proofs.unsorted.UnsortedRecordsRecordSet.add_view.Goals as goal
 
 pub add_entry-requires-clause-entry : goal.add_entry-requires-clause-entry
@@ -19,7 +20,14 @@ returns-clause-ok c =
     c.deref.result.now c.write_canonical_view.ensures.shown (sym c.is_err.ensures.value ∙ c.if-is_err.false)
     c.clear.ensures.items c.deref.ensures.value in
     on_ok_weaker c.add_entry.result
-    (λ is. λ b seen es same. shown_more _ _ b _ _ _ es shown c.instant.ensures seen is same) c.add_entry.ensures.ok
+    (λ is. λ b seen es same. shown_more _ _ b _ (entries_kept c.shed.new.self) _ es shown c.instant.ensures seen is
+    (same_through (entries_kept c.args.self.now) (entries_kept c.shed.new.self) es c.shed.ensures same)) c.add_entry.ensures.ok
+
+pub returns-clause-err : goal.returns-clause-err
+returns-clause-err c =
+    on_err_weaker c.add_entry.result
+    (λ is. same_kept (entries_kept c.args.self.now) (entries_kept c.shed.new.self) _ is c.shed.ensures)
+    c.add_entry.ensures.err
 
 pub returns-clause-long : goal.returns-clause-long
 returns-clause-long c =
