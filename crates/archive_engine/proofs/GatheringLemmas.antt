@@ -1,7 +1,6 @@
--- What a frame does to a set that may be larger than memory.
+-- What a frame does to a set.
 use Rattle.std.proofs.Common.{◌≡◌, ◌≤◌, ℕ, List, [], ◌∷◌, ◌++◌, length, inl, inr, sym, subst, arith, ap, refl, None, Some, ◌∙◌}
 use Rattle.std.specs.Prelude.{◌↔◌, ℤ}
-use Rattle.octet_devices.specs.Device.{InputState}
 use Rattle.syslog_value.specs.Parts.{Parts}
 use Rattle.syslog_frame.specs.declared.limits.TheConstants.{FRAME_MAX}
 use Rattle.syslog_grammar.proofs.Bounded.{canonical_bounded}
@@ -14,8 +13,6 @@ use Rattle.syslog_legacy.proofs.FrameReadings.{fault_not_read, not_utf8, read_wi
 use Rattle.archive_text.specs.Entries.{Entry, Has, IsEntryOf}
 use Rattle.archive_text.specs.declared.limits.TheConstants.{ENTRY_MAX}
 use Rattle.archive_laws.proofs.Collected.{both}
-use Rattle.archive_spill.specs.Sets.{Holds}
-use Rattle.archive_spill.specs.declared.spilled.SpilledArchive.{SpilledArchive}
 use Rattle.syslog_collect.specs.Frames.{IsEntryOfFrame}
 use Rattle.syslog_collect.proofs.Gains.{spelled_after, spelled_before, spelled_either}
 use Rattle.syslog_collect.proofs.OneReading.{one_entry}
@@ -43,35 +40,18 @@ fits : (way : FrameReading) (f : List ℕ) (r : Parts ℤ) (e : Entry) → lengt
 fits way f r e few is entry =
     fits_under way.clock (octets_read way f) r e (omega (arith, few, read_within way f)) is entry
 
--- a set holds a list as it holds another with the same members
-holds_alike : {P R : Type 0} (tells : P → Type 0) (state : R → InputState) (s : SpilledArchive P R)
-    (es fs : List Entry) → ((x : Entry) → Has fs x ↔ Has es x) → Holds tells state s es → Holds tells state s fs
-holds_alike tells state s es fs same h = record {
-  keeps = record {
-    told = h.keeps.told;
-    kept = record {
-      xss = h.keeps.kept.xss;
-      runs = h.keeps.kept.runs;
-      members = λ x. (
-        λ k. (h.keeps.kept.members x).0 ((same x).0 k),
-        λ k. (same x).1 ((h.keeps.kept.members x).1 k),
-      );
-    };
-  };
-  sound = h.sound;
-}
-
 -- a frame's record was added
-pub gathered_more : {P R : Type 0} (tells : P → Type 0) (state : R → InputState) (way : FrameReading)
-    (old new : SpilledArchive P R) (frames : List (List ℕ)) (f : List ℕ) → (g : Gathered tells state way old frames)
-    → GathersFrame tells state way new f g.entries → Gathered tells state way new (frames ++ f ∷ [])
-gathered_more tells state way old new frames f g k =
+pub gathered_more : {S : Type 0} (H : S → List Entry → Type 0)
+    → ((s : S) (es fs : List Entry) → ((x : Entry) → Has fs x ↔ Has es x) → H s es → H s fs) → (way : FrameReading)
+    (old new : S) (frames : List (List ℕ)) (f : List ℕ) → (g : Gathered H way old frames)
+    → GathersFrame H way new f g.entries → Gathered H way new (frames ++ f ∷ [])
+gathered_more H alike way old new frames f g k =
     let b = both ENTRY_MAX g.entries (k.entry ∷ []) g.archive ((k.r, k.is_entry), tt)
     (fits way f k.r k.entry k.few k.is_read k.is_entry, tt) in
     record {
       entries = b.entries;
       archive = b.archive;
-      holds = holds_alike tells state new (k.entry ∷ g.entries) b.entries
+      holds = alike new (k.entry ∷ g.entries) b.entries
           (λ x. (
             λ has. elim ((b.has x).0 has) [
               | inl first ↦ inr first
@@ -108,12 +88,11 @@ no_entry way n f line (inr (inl (le, offset, stops, e))) x (few, (r, is, entry))
 no_entry way n f line (inr (inr (le, form, fault, bad, e))) x (few, (r, is, entry)) =
     fault_not_read way f r fault form bad is
 
-pub gathered_refused : {P R : Type 0} (tells : P → Type 0) (state : R → InputState) (way : FrameReading)
-    (s : SpilledArchive P R) (frames : List (List ℕ)) (n : ℕ) (f : List ℕ) (line : Line)
+pub gathered_refused : {S : Type 0} (H : S → List Entry → Type 0) (way : FrameReading) (s : S) (frames : List (List ℕ)) (n : ℕ) (f : List ℕ) (line : Line)
     → IsRefusedWith way n f line
-    → Gathered tells state way s frames → Gathered tells state way s (frames ++ f ∷ [])
-gathered_refused tells state way s frames n f line refused g =
-    gathered_less tells state way s frames f (no_entry way n f line refused) g
+    → Gathered H way s frames → Gathered H way s (frames ++ f ∷ [])
+gathered_refused H way s frames n f line refused g =
+    gathered_less H way s frames f (no_entry way n f line refused) g
 
 -- what is noted of a refused frame
 pub refused_handled : (way : FrameReading) (n : ℕ) (f : List ℕ) (line : Line) → IsRefusedWith way n f line
@@ -126,30 +105,30 @@ refused_handled way n f line (inr (inr (few, form, fault, bad, e))) =
 
 -- ---- what a frame does
 
-pub frame_added : {P R : Type 0} (tells : P → Type 0) (state : R → InputState) (first old new : Gathering P R) (n : ℕ)
+pub frame_added : {S F : Type 0} (H : S → List Entry → Type 0) (first old new : Gathering S F) (n : ℕ)
     (f : List ℕ) (frames : List (List ℕ)) (d : Done) → (r : Parts ℤ) × IsRecordOf old.reading r f
     → new.reading ≡ old.reading
-    → (Gathered tells state old.reading old.set frames → Gathered tells state old.reading new.set (frames ++ f ∷ []))
-    → GathersFrom tells state first old frames
-    → Adds (archive_handling first.reading n f) d d × GathersFrom tells state first new (frames ++ f ∷ [])
-frame_added tells state first old new n f frames d some same more s =
+    → (Gathered H old.reading old.set frames → Gathered H old.reading new.set (frames ++ f ∷ []))
+    → GathersFrom H first old frames
+    → Adds (archive_handling first.reading n f) d d × GathersFrom H first new (frames ++ f ∷ [])
+frame_added H first old new n f frames d some same more s =
     let record_of : (r : Parts ℤ) × IsRecordOf first.reading r f =
     subst (λ (w : FrameReading). (r : Parts ℤ) × IsRecordOf w r f) s.0 some in (
       (nothing, inr (inl (record_of.1.0, (record_of.0, record_of.1.1), refl)), sym (then_nothing d)),
       (
         same ∙ s.0,
-        λ h. subst (λ (w : FrameReading). Gathered tells state w new.set (frames ++ f ∷ [])) s.0
-            (more (subst (λ (w : FrameReading). Gathered tells state w old.set frames) (sym s.0) (s.1 h))),
+        λ h. subst (λ (w : FrameReading). Gathered H w new.set (frames ++ f ∷ [])) s.0
+            (more (subst (λ (w : FrameReading). Gathered H w old.set frames) (sym s.0) (s.1 h))),
       ),
     )
 
-pub frame_refused : {P R : Type 0} (tells : P → Type 0) (state : R → InputState) (first old : Gathering P R) (n : ℕ)
+pub frame_refused : {S F : Type 0} (H : S → List Entry → Type 0) (first old : Gathering S F) (n : ℕ)
     (f : List ℕ) (frames : List (List ℕ)) (line : Line) (d e : Done) → IsRefusedWith old.reading n f line
-    → e ≡ then_done d (noted_line line) → GathersFrom tells state first old frames
-    → Adds (archive_handling first.reading n f) d e × GathersFrom tells state first old (frames ++ f ∷ [])
-frame_refused tells state first old n f frames line d e refused is s =
+    → e ≡ then_done d (noted_line line) → GathersFrom H first old frames
+    → Adds (archive_handling first.reading n f) d e × GathersFrom H first old (frames ++ f ∷ [])
+frame_refused H first old n f frames line d e refused is s =
     let here : IsRefusedWith first.reading n f line =
     subst (λ (w : FrameReading). IsRefusedWith w n f line) s.0 refused in (
       (noted_line line, refused_handled first.reading n f line here, is),
-      (s.0, λ h. gathered_refused tells state first.reading old.set frames n f line here (s.1 h)),
+      (s.0, λ h. gathered_refused H first.reading old.set frames n f line here (s.1 h)),
     )

@@ -1,10 +1,9 @@
 pub mod ArchiveLemmas
 pub mod FaultLemmas
+pub mod GatheredSets
 pub mod GatheringLemmas
 pub mod MergeLemmas
 pub mod MigrateLemmas
-pub mod OutcomeLemmas
-pub mod ReceiveLemmas
 pub mod SpilledEnds
 pub mod SpilledLines
 pub mod StreamLemmas

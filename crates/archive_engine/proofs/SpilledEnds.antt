@@ -8,65 +8,36 @@ use Rattle.std.proofs.lemmas.List.{length-append, take-append-drop}
 use Rattle.std.proofs.Math.Seq.{take-append_seam}
 use Rattle.octet_devices.specs.Device.{InputState, OutputState}
 use Rattle.octet_devices.specs.Transfers.{WroteAll}
-use Rattle.syslog_frame.specs.Frames.{Frames}
 use Rattle.syslog_frame.specs.declared.framing.Framing.{Framing}
-use Rattle.syslog_frame.proofs.FrameLaws.{unique_frames}
 use Rattle.syslog_legacy.specs.declared.frame_reading.FrameReading.{FrameReading}
 use Rattle.archive_text.specs.Entries.{Entry}
 use Rattle.archive_text.specs.Text.{IsArchive, text_of}
 use Rattle.archive_text.specs.declared.limits.TheConstants.{ENTRY_MAX}
 use Rattle.archive_spill.specs.Sets.{Holds}
 use Rattle.archive_spill.specs.Writing.{WroteLess, WrotePrefix}
+use Rattle.archive_spill.specs.declared.fault.SpillFault.{SpillFault}
 use Rattle.archive_spill.specs.declared.spilled.SpilledArchive.{SpilledArchive}
-use Rattle.syslog_collect.specs.Frames.{IsSpelled}
 use Rattle.driver.specs.Devices.{Devices, IsLeft, Reports}
-use Rattle.driver.specs.Effects.{Done, nothing, status_of, then_done}
+use Rattle.driver.specs.Effects.{Done, nothing, status_of}
 use Rattle.driver.specs.Run.{AnswersPart, EndsAs, Ran, WriteFailedWith, WritesPrefix}
 use Rattle.driver.specs.declared.stopped.Stopped.{Stopped}
 use Rattle.driver.specs.declared.stopped.Stopped.TheVariants.{Diagnostics, Endless, Memory, Read, Write}
 use Rattle.driver.proofs.Ends.{flushed_to}
 use Rattle.driver.proofs.Known.{is_left_same, wrote_nothing, wrote_then}
-use Rattle.frame_engine.specs.Converted.{noted_line}
-use Rattle.frame_engine.specs.Sessions.{EndsInput, GoesOn}
+use Rattle.frame_engine.specs.Sessions.{GoesOn}
 use Rattle.frame_engine.specs.Streams.{HasPart}
 use Rattle.frame_engine.specs.declared.input_framing.InputFraming.{InputFraming}
 use Rattle.frame_engine.specs.declared.input_framing.InputFraming.TheVariants.{Stream}
-use Rattle.frame_engine.proofs.HandlingLemmas.{then_nothing}
 use Rattle.archive_engine.specs.Archived.{ArchiveDone, IsArchiveOf, archive_handling, archive_meaning}
-use Rattle.archive_engine.specs.Gathering.{GatherStops, Gathered, GatheredAll, GathersFrom, GathersInput, LinesRead}
-use Rattle.archive_engine.specs.Gathering.{only_at_end}
+use Rattle.archive_engine.specs.Gathering.{GatherStops, GatheredAll, GathersFrom, GathersInput, LinesRead}
 use Rattle.archive_engine.specs.Spilled.{ClosesSpilled, FinishesAs, IsOfSet, IsSpillStopped, OfArchive}
 use Rattle.archive_engine.specs.Spilled.{PumpedSpilled, RanSpilled, StopsShort, WroteLines, WroteNoArchive}
 use Rattle.archive_engine.specs.Spilled.{SpillEndsAs, lines_meaning, spill_line, spill_status}
 use Rattle.archive_engine.specs.declared.gathering.Gathering.{Gathering}
 use Rattle.archive_engine.specs.declared.spill_stop.SpillStop.{SpillStop}
 use Rattle.archive_engine.specs.declared.spill_stop.SpillStop.TheVariants.{Run, Spill}
+use Rattle.archive_engine.proofs.GatheredSets.{set_archive, whole_lines}
 use Rattle.archive_engine.proofs.ArchiveLemmas.{archive_begun, archive_laws, one_archive, part_only, so_far_only}
-
--- ---- what was gathered
-
--- the lines on the whole input
-pub whole_lines : (way : FrameReading) (S : List (List ℕ) → Type 0) (kind : Framing) (input : List ℕ) (d : Done)
-    → EndsInput (archive_handling way) noted_line (only_at_end S) (Stream kind) input d
-    → (lines_meaning way (Stream kind)).whole input d
-whole_lines way S kind input d e =
-    let same : d ≡ e.of_input = e.whole ∙ ap (then_done e.of_input) e.ends.1 ∙ then_nothing e.of_input in
-    subst (λ (x : Done). (lines_meaning way (Stream kind)).whole input x) (sym same) e.means
-
--- a set of the records of the frames is the archive of the input
-pub whole_archive : {P R : Type 0} (tells : P → Type 0) (state : R → InputState) (way : FrameReading)
-    (s : SpilledArchive P R)
-    (kind : Framing) (input : List ℕ) (frames : List (List ℕ)) (rest : List ℕ) → Frames kind input frames rest
-    → (g : Gathered tells state way s frames) → IsArchiveOf way (Stream kind) input g.entries
-whole_archive tells state way s kind input frames rest are g = record {
-  archive = g.archive;
-  members = λ x. (
-    λ has. (frames, (rest, are), (g.members x).0 has),
-    λ received.
-        let same = (unique_frames kind input received.0 frames received.1.0 rest received.1.1 are).0 in
-        (g.members x).1 (subst (λ (fs : List (List ℕ)). IsSpelled way fs x) same received.2),
-  );
-}
 
 -- ---- prefixes
 
@@ -106,17 +77,6 @@ wrote_lines W told way kind S i j o p n m refused g archived = record {
   to_diagnostics = subst (WroteAll n m) (sym (append-nil g.lines.diagnostics)) g.wrote;
 }
 
--- the archive of the set
-set_archive : {P R : Type 0} (tells : P → Type 0) (state : R → InputState) (first now : Gathering P R) (kind : Framing)
-    (input : List ℕ) (d : Done)
-    → EndsInput (archive_handling first.reading) noted_line (only_at_end (GathersFrom tells state first now))
-    (Stream kind) input d
-    → Holds tells state first.set []
-    → (es : List Entry) × IsArchiveOf first.reading (Stream kind) input es × Holds tells state now.set es
-set_archive tells state first now kind input d e h =
-    let g = e.ends.0.1 h in
-    (g.entries, whole_archive tells state first.reading now.set kind input e.frames e.frames_are.0 e.frames_are.1 g, g.holds)
-
 -- what was written of the set's archive, by the result: all of it, or what the stop says
 pub record Finished {P R : Type 0} (tells : P → Type 0) (state : R → InputState) (s : SpilledArchive P R)
     (o p : OutputState) (refused : Bool) (r : Result ℕ SpillStop) : Type 0
@@ -132,26 +92,26 @@ three i o n = record { input = i; output = o; diagnostics = n }
 abbrev status_of_bool : Bool → ℕ
 status_of_bool b = if b then 1 else 0
 
-finished_ok : {P R : Type 0} (tells : P → Type 0) (state : R → InputState) (first now : Gathering P R)
+finished_ok : {P R : Type 0} (tells : P → Type 0) (state : R → InputState) (first now : Gathering (SpilledArchive P R) SpillFault)
     (kind : Framing) (i j : InputState) (o p n m : OutputState) (refused : Bool) (status : ℕ)
-    → GathersInput first.reading (GathersFrom tells state first now) kind i j n m (Ok refused)
+    → GathersInput first.reading (GathersFrom (Holds tells state) first now) kind i j n m (Ok refused)
     → Finished tells state now.set o p refused (Ok status)
     → PumpedSpilled (Holds tells state first.set []) first.reading (Stream kind) (three i o n) (three j p m) (Ok status)
 unfolding wrote_lines
 finished_ok tells state first now kind i j o p n m refused status gathers f =
     let g = gathers.outcome in
-    let S = GathersFrom tells state first now in
+    let S = GathersFrom (Holds tells state) first now in
     record {
       outcome = record {
         wrote = wrote_lines WroteAll (Holds tells state first.set []) first.reading kind S i j o p n m refused g
             (λ h.
-            let a = set_archive tells state first now kind g.input g.lines g.ends h in
+            let a = set_archive (Holds tells state) first now kind g.input g.lines g.ends h in
             (a.0, a.1, f.written a.0 a.2 a.1.archive));
         status_is = f.status ∙ ap status_of_bool g.refused_is;
         no_failure = g.no_failure;
       };
       begins = λ h.
-          let a = set_archive tells state first now kind g.input g.lines g.ends h in
+          let a = set_archive (Holds tells state) first now kind g.input g.lines g.ends h in
           archive_prefix first.reading (Stream kind) (three i o n) (three j p m) g.input a.0 (text_of a.0) [] g.is_input
           a.1 (sym (append-nil (text_of a.0))) (f.written a.0 a.2 a.1.archive).octets;
       few = gathers.few;
@@ -161,10 +121,10 @@ finished_ok tells state first now kind i j o p n m refused status gathers f =
 abbrev TookPrefix : OutputState → OutputState → List ℕ → Type 0
 TookPrefix o p text = (n : ℕ) × Appends o.taken p.taken (take n text)
 
-finished_part : {P R : Type 0} (tells : P → Type 0) (state : R → InputState) (first now : Gathering P R)
+finished_part : {P R : Type 0} (tells : P → Type 0) (state : R → InputState) (first now : Gathering (SpilledArchive P R) SpillFault)
     (kind : Framing) (i j : InputState) (o p n m : OutputState) (refused : Bool) (stop : SpillStop)
     (W : OutputState → OutputState → List ℕ → Type 0)
-    → GathersInput first.reading (GathersFrom tells state first now) kind i j n m (Ok refused)
+    → GathersInput first.reading (GathersFrom (Holds tells state) first now) kind i j n m (Ok refused)
     → ((es : List Entry) → Holds tells state now.set es → IsArchive ENTRY_MAX es → W o p (text_of es))
     → ((text : List ℕ) → W o p text → TookPrefix o p text)
     → (WroteLines W (Holds tells state first.set []) first.reading (Stream kind) [] (three i o n) (three j p m)
@@ -172,23 +132,23 @@ finished_part : {P R : Type 0} (tells : P → Type 0) (state : R → InputState)
     → PumpedSpilled (Holds tells state first.set []) first.reading (Stream kind) (three i o n) (three j p m) (Err stop)
 finished_part tells state first now kind i j o p n m refused stop W gathers writes took stops =
     let g = gathers.outcome in
-    let S = GathersFrom tells state first now in
+    let S = GathersFrom (Holds tells state) first now in
     record {
       outcome = stops (wrote_lines W (Holds tells state first.set []) first.reading kind S i j o p n m refused g
           (λ h.
-          let a = set_archive tells state first now kind g.input g.lines g.ends h in
+          let a = set_archive (Holds tells state) first now kind g.input g.lines g.ends h in
           (a.0, a.1, writes a.0 a.2 a.1.archive)));
       begins = λ h.
-          let a = set_archive tells state first now kind g.input g.lines g.ends h in
+          let a = set_archive (Holds tells state) first now kind g.input g.lines g.ends h in
           let t = took (text_of a.0) (writes a.0 a.2 a.1.archive) in
           archive_prefix first.reading (Stream kind) (three i o n) (three j p m) g.input a.0 (take t.0 (text_of a.0))
           (drop t.0 (text_of a.0)) g.is_input a.1 (all_parts (text_of a.0) t.0) t.1;
       few = gathers.few;
     }
 
-pub finished : {P R : Type 0} (tells : P → Type 0) (state : R → InputState) (first now : Gathering P R)
+pub finished : {P R : Type 0} (tells : P → Type 0) (state : R → InputState) (first now : Gathering (SpilledArchive P R) SpillFault)
     (kind : Framing) (i j : InputState) (o p n m : OutputState) (refused : Bool) (r : Result ℕ SpillStop)
-    → GathersInput first.reading (GathersFrom tells state first now) kind i j n m (Ok refused)
+    → GathersInput first.reading (GathersFrom (Holds tells state) first now) kind i j n m (Ok refused)
     → Finished tells state now.set o p refused r
     → PumpedSpilled (Holds tells state first.set []) first.reading (Stream kind) (three i o n) (three j p m) r
 finished tells state first now kind i j o p n m refused (Ok status) gathers f =
@@ -503,7 +463,7 @@ ran_plain told way framing old new status r =
 
 -- ---- by another name of the same
 
-pub pumped_at : {P R : Type 0} (tells : P → Type 0) (state : R → InputState) (first : Gathering P R)
+pub pumped_at : {P R : Type 0} (tells : P → Type 0) (state : R → InputState) (first : Gathering (SpilledArchive P R) SpillFault)
     (way : FrameReading) (set : SpilledArchive P R) (framing : InputFraming) (old new : Devices) (r : Result ℕ SpillStop)
     → first.reading ≡ way → first.set ≡ set
     → PumpedSpilled (Holds tells state first.set []) first.reading framing old new r

@@ -2,8 +2,7 @@
 use Rattle.std.proofs.Common.{◌≡◌, ℕ, ◌+◌, ◌<◌, ◌≤◌, List, [], ◌++◌, length, take, drop, refl, sym, ap, subst, ◌∙◌}
 use Rattle.std.proofs.Math.Seq.{take-append_seam}
 use Rattle.driver.specs.declared.session.Flow.TheVariants.{Continue, Finished}
-use Rattle.std.proofs.Common.{append-nil, arith, inl, inr, Bool, Result, Ok, Err}
-use Rattle.std.specs.Prelude.{IfErr, IfOk, MatchResult, OnErr}
+use Rattle.std.proofs.Common.{append-nil, arith, inl, inr, Bool, Ok, Err}
 use Rattle.std.specs.Io.KnownBytes.{Consumes}
 use Rattle.std.proofs.KnownBytes.{Consumes-kept, Consumes-nil, Consumes-trans}
 use Rattle.std.proofs.lemmas.Bool.{cases_lt}
@@ -335,19 +334,6 @@ stops_at_end stop way kind n buf given o p none h =
     let nil : take n buf ≡ [] = rw none refl in
     subst (λ (l : List ℕ). StopsLines stop way kind l o p)
     (sym (ap (λ (l : List ℕ). given ++ l) nil ∙ append-nil given)) h
-
--- ---- results
-
-pub map_result : {A E : Type 0} (r : Result A E) (P Q : A → Type 0) (S T : E → Type 0) → ((x : A) → P x → Q x)
-    → ((e : E) → S e → T e) → MatchResult r P S → MatchResult r Q T
-map_result (Ok x) P Q S T f g h = f x h
-map_result (Err e) P Q S T f g h = g e h
-
-pub both_ways : {A : Type 0} (r : Result A SpillStop) (P Q : A → Type 0) (S : Type 0) (T : SpillStop → Type 0)
-    → ((x : A) → P x → Q x) → ((e : SpillStop) → IsShort e → S → T e) → IfOk r P → OnErr r S → IfErr r IsShort
-    → MatchResult r Q T
-both_ways (Ok x) P Q S T f g h k s = f x h
-both_ways (Err e) P Q S T f g h k s = g e s k
 
 -- ---- a piece
 

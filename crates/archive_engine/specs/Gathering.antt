@@ -1,4 +1,4 @@
--- What frames left in a set that may be larger than memory, and the lines on them.
+-- What frames left in a set, and the lines on them.
 use Rattle.std.specs.Prelude.{◌≡◌, ◌↔◌, ◌≤◌, ℕ, ℤ, List, [], ◌∷◌, ◌++◌, length, Bool, Result, MatchResult}
 use Rattle.std.specs.Io.KnownBytes.{Consumes}
 use Rattle.octet_devices.specs.Device.{InputState, OutputState}
@@ -12,8 +12,9 @@ use Rattle.syslog_legacy.specs.declared.frame_reading.FrameReading.{FrameReading
 use Rattle.archive_text.specs.Entries.{Entry, Has, IsEntryOf}
 use Rattle.archive_text.specs.Text.{IsArchive}
 use Rattle.archive_text.specs.declared.limits.TheConstants.{ENTRY_MAX}
-use Rattle.archive_spill.specs.Sets.{Holds}
-use Rattle.archive_spill.specs.declared.spilled.SpilledArchive.{SpilledArchive}
+use Rattle.archive_sorting.specs.Records.{entries_kept}
+use Rattle.archive_sorting.specs.Settled.{HaveSame}
+use Rattle.archive_sorting.specs.declared.unsorted.UnsortedRecords.{UnsortedRecords}
 use Rattle.syslog_collect.specs.Frames.{IsSpelled}
 use Rattle.driver.specs.Devices.{InputFailed, IsEndless, IsLeft, OutputFailed}
 use Rattle.driver.specs.Effects.{Done, nothing, then_done, written}
@@ -30,32 +31,35 @@ use Rattle.archive_engine.specs.declared.gathering.Gathering.{Gathering}
 use Rattle.archive_engine.specs.declared.spill_stop.SpillStop.{SpillStop}
 use Rattle.archive_engine.specs.declared.spill_stop.SpillStop.TheVariants.{Run, Spill}
 
--- a set holds the entries of the records as which frames are read, and no other
-pub record Gathered {P R : Type 0} (tells : P → Type 0) (state : R → InputState) (way : FrameReading)
-    (s : SpilledArchive P R) (frames : List (List ℕ)) : Type 0
+-- a set holds the entries of the records as which frames are read, and no other; what it holds is told by H
+pub record Gathered {S : Type 0} (H : S → List Entry → Type 0) (way : FrameReading) (s : S) (frames : List (List ℕ))
+    : Type 0
   where
     pub entries : List Entry
     pub archive : IsArchive ENTRY_MAX entries
-    pub holds : Holds tells state s entries
+    pub holds : H s entries
     pub members : (x : Entry) → Has entries x ↔ IsSpelled way frames x
 
 -- a set to which the record as which a frame is read was added
-pub record GathersFrame {P R : Type 0} (tells : P → Type 0) (state : R → InputState) (way : FrameReading)
-    (s : SpilledArchive P R) (f : List ℕ) (old : List Entry) : Type 0
+pub record GathersFrame {S : Type 0} (H : S → List Entry → Type 0) (way : FrameReading) (s : S) (f : List ℕ)
+    (old : List Entry) : Type 0
   where
     pub r : Parts ℤ
     pub entry : Entry
     pub few : length f ≤ FRAME_MAX
     pub is_read : IsReadAs way r f
     pub is_entry : IsEntryOf r entry
-    pub holds : Holds tells state s (entry ∷ old)
+    pub holds : H s (entry ∷ old)
 
--- a set that held nothing before took in the records of these frames; so much is known where its spill reports its octets
-abbrev pub GathersFrom : {P R : Type 0} → (P → Type 0) → (R → InputState) → Gathering P R → Gathering P R
-    → List (List ℕ) → Type 0
-GathersFrom tells state first now frames =
-    (now.reading ≡ first.reading)
-    × (Holds tells state first.set [] → Gathered tells state first.reading now.set frames)
+-- a set that held nothing before took in the records of these frames; so much is known where it tells what it holds
+abbrev pub GathersFrom : {S F : Type 0} → (S → List Entry → Type 0) → Gathering S F → Gathering S F → List (List ℕ)
+    → Type 0
+GathersFrom H first now frames =
+    (now.reading ≡ first.reading) × (H first.set [] → Gathered H first.reading now.set frames)
+
+-- records that were kept hold these entries, and no other
+abbrev pub Holds : UnsortedRecords → List Entry → Type 0
+Holds s es = HaveSame (entries_kept s) es
 
 -- at the end of the frames the set is so, and nothing is done
 abbrev pub only_at_end : (List (List ℕ) → Type 0) → AtEnd

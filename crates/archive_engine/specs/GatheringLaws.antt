@@ -1,20 +1,16 @@
 -- No frames, and frames that are too long, leave nothing in a set.
 use Rattle.std.proofs.Common.{◌<◌, ℕ, List, [], ◌∷◌, ◌++◌, length, inl, inr, arith}
-use Rattle.octet_devices.specs.Device.{InputState}
 use Rattle.syslog_frame.specs.declared.limits.TheConstants.{FRAME_MAX}
 use Rattle.syslog_legacy.specs.declared.frame_reading.FrameReading.{FrameReading}
 use Rattle.archive_text.specs.Entries.{Entry}
 use Rattle.archive_text.specs.declared.limits.TheConstants.{ENTRY_MAX}
 use Rattle.archive_text.proofs.Ascending.{archive_nil}
-use Rattle.archive_spill.specs.Sets.{Holds}
-use Rattle.archive_spill.specs.declared.spilled.SpilledArchive.{SpilledArchive}
 use Rattle.syslog_collect.specs.Frames.{IsEntryOfFrame}
 use Rattle.syslog_collect.proofs.Gains.{spelled_before, spelled_either}
 use Rattle.archive_engine.specs.Gathering.{Gathered}
 
-pub gathered_none : {P R : Type 0} (tells : P → Type 0) (state : R → InputState) (way : FrameReading)
-    (s : SpilledArchive P R) → Holds tells state s [] → Gathered tells state way s []
-gathered_none tells state way s h = record {
+pub gathered_none : {S : Type 0} (H : S → List Entry → Type 0) (way : FrameReading) (s : S) → H s [] → Gathered H way s []
+gathered_none H way s h = record {
   entries = [];
   archive = archive_nil ENTRY_MAX;
   holds = h;
@@ -22,10 +18,9 @@ gathered_none tells state way s h = record {
 }
 
 -- a frame that is read as no record
-pub gathered_less : {P R : Type 0} (tells : P → Type 0) (state : R → InputState) (way : FrameReading)
-    (s : SpilledArchive P R) (frames : List (List ℕ)) (f : List ℕ) → ((x : Entry) → ¬ (IsEntryOfFrame way f x))
-    → Gathered tells state way s frames → Gathered tells state way s (frames ++ f ∷ [])
-gathered_less tells state way s frames f none g = record {
+pub gathered_less : {S : Type 0} (H : S → List Entry → Type 0) (way : FrameReading) (s : S) (frames : List (List ℕ)) (f : List ℕ) → ((x : Entry) → ¬ (IsEntryOfFrame way f x))
+    → Gathered H way s frames → Gathered H way s (frames ++ f ∷ [])
+gathered_less H way s frames f none g = record {
   entries = g.entries;
   archive = g.archive;
   holds = g.holds;
@@ -39,8 +34,7 @@ gathered_less tells state way s frames f none g = record {
   );
 }
 
-pub gathered_long : {P R : Type 0} (tells : P → Type 0) (state : R → InputState) (way : FrameReading)
-    (s : SpilledArchive P R) (frames : List (List ℕ)) (f : List ℕ) → FRAME_MAX < length f
-    → Gathered tells state way s frames → Gathered tells state way s (frames ++ f ∷ [])
-gathered_long tells state way s frames f long g =
-    gathered_less tells state way s frames f (λ x is. omega (arith, is.0, long)) g
+pub gathered_long : {S : Type 0} (H : S → List Entry → Type 0) (way : FrameReading) (s : S) (frames : List (List ℕ)) (f : List ℕ) → FRAME_MAX < length f
+    → Gathered H way s frames → Gathered H way s (frames ++ f ∷ [])
+gathered_long H way s frames f long g =
+    gathered_less H way s frames f (λ x is. omega (arith, is.0, long)) g

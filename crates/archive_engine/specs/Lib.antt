@@ -5,6 +5,4 @@ pub mod Gathering
 pub mod GatheringLaws
 pub mod Merged
 pub mod Migrated
-pub mod Outcomes
-pub mod Receiving
 pub mod Spilled

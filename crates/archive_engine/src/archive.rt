@@ -6,8 +6,6 @@ ghost use Rattle.archive_engine.specs.Archived.{archive_meaning};
 
 use crate::archive_datagram::ArchiveDatagram;
 use crate::archive_stream::ArchiveStream;
-use crate::reception::Reception;
-use archive_pages::PagedArchive;
 use driver::{NO_MEMORY, drive, report};
 use frame_engine::InputFraming;
 use octet_devices::{Input, Output};
@@ -34,16 +32,13 @@ pub fn archive_input<R: Input, W: Output, N: Output>(
         (devices (R.state input.new) (W.state output.new) (N.state diagnostics.new))
         result }
 {
-    let Ok(reception) = Reception::new(alloc, PagedArchive::new(alloc), reading) else {
-        return report(diagnostics, b"want of memory\n", NO_MEMORY);
-    };
     match input_framing {
         InputFraming::Datagram => {
-            let mut session = ArchiveDatagram::new(alloc, reception);
+            let mut session = ArchiveDatagram::new(alloc, reading);
             drive(alloc, &mut session, input, output, diagnostics)
         }
         InputFraming::Stream(framing) => {
-            let Ok(mut session) = ArchiveStream::new(alloc, framing, reception) else {
+            let Ok(mut session) = ArchiveStream::new(alloc, framing, reading) else {
                 return report(diagnostics, b"want of memory\n", NO_MEMORY);
             };
             drive(alloc, &mut session, input, output, diagnostics)

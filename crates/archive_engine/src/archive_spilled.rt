@@ -11,6 +11,8 @@ ghost use Rattle.archive_text.specs.Entries.{Entry};
 ghost use Rattle.archive_text.specs.Text.{IsArchive, text_of};
 ghost use Rattle.archive_text.specs.declared.limits.TheConstants.{ENTRY_MAX};
 ghost use Rattle.archive_spill.specs.Sets.{Holds};
+ghost use Rattle.archive_spill.specs.declared.fault.SpillFault.{SpillFault};
+ghost use Rattle.archive_spill.specs.declared.spilled.SpilledArchive.{SpilledArchive};
 ghost use Rattle.driver.specs.Devices.{OutputFailed, devices};
 ghost use Rattle.driver.specs.Effects.{Done, done_of, nothing, then_done};
 ghost use Rattle.driver.specs.declared.session.Flow.TheVariants.{Continue};
@@ -20,7 +22,8 @@ ghost use Rattle.frame_engine.specs.Sessions.{EndsInput};
 ghost use Rattle.frame_engine.specs.Streams.{HasHandled};
 ghost use Rattle.frame_engine.specs.declared.input_framing.InputFraming.TheVariants.{Stream};
 ghost use Rattle.archive_engine.specs.Archived.{archive_handling};
-ghost use Rattle.archive_engine.specs.Gathering.{GathersFrom, GathersInput, GoesOrEnds, Noted, StopsLines, only_at_end};
+ghost use Rattle.archive_engine.specs.Gathering.{GathersFrom, GathersInput, GoesOrEnds, IsShort, Noted, StopsLines};
+ghost use Rattle.archive_engine.specs.Gathering.{only_at_end};
 ghost use Rattle.archive_engine.specs.Spilled.{ClosesSpilled, FinishesAs, IsOfSet, PumpedSpilled, RanSpilled};
 ghost use Rattle.archive_engine.specs.declared.gathering.Gathering.{Gathering};
 ghost use Rattle.archive_engine.specs.declared.spill_stop.SpillStop.TheVariants.{Run};
@@ -32,7 +35,7 @@ use archive_spill::{Spill, SpillFault, SpilledArchive};
 use driver::{DONE, Effects, FAULT, Flow, NO_MEMORY, REFUSED, Stopped, report};
 use frame_engine::InputFraming;
 use octet_devices::{Input, Output, READER_CALLS, write_all};
-use std::alloc::Global;
+use std::alloc::{AllocError, Global};
 use syslog_frame::Framing;
 use syslog_legacy::FrameReading;
 
@@ -60,9 +63,19 @@ fn tell<N: Output>(effects: &mut Effects, diagnostics: &mut N) -> Result<(), Spi
     }
 }
 
+// Why a stream stopped, whose set did not take a record for this cause, if for any.
+fn stop_of(fault: Option<SpillFault>) -> SpillStop
+    ensures { IsShort result }
+{
+    match fault {
+        None | Some(SpillFault::Memory) => SpillStop::Run(Stopped::Memory),
+        Some(SpillFault::Spill | SpillFault::TooLong | SpillFault::Output) => SpillStop::Spill,
+    }
+}
+
 // Gives a piece to the stream, and writes the lines on it.
 fn take_piece<P: Spill + Drop, N: Output>(
-    stream: &mut GatheredStream<P, P::Run>,
+    stream: &mut GatheredStream<SpilledArchive<P, P::Run>, SpillFault>,
     piece: &[u8],
     effects: &mut Effects,
     diagnostics: &mut N,
@@ -75,66 +88,76 @@ fn take_piece<P: Spill + Drop, N: Output>(
         stream.new.scanner.position ≡ stream.old.scanner.position + length piece.now) }
     ensures number { stream.new.number ≤ stream.old.number + length piece.now }
     ensures takes { MatchResult result
-        (λ flow. (n : OutputState) (first : Gathering P P.Run) (kind : Framing) (given : List ℕ)
+        (λ flow. (n : OutputState) (first : Gathering (SpilledArchive P P.Run) SpillFault)
+        (kind : Framing) (given : List ℕ)
         → Noted (HasHandled (archive_handling first.reading)
-        (GathersFrom P.tells P.Run.state first stream.old.gathering) stream.old.scanner kind given
+        (GathersFrom (Holds P.tells P.Run.state) first stream.old.gathering) stream.old.scanner kind given
         stream.old.number) n (N.state diagnostics.old) (done_of effects.old)
         → Noted (GoesOrEnds flow first.reading
-        (GathersFrom P.tells P.Run.state first stream.new.gathering) stream.new.scanner kind
+        (GathersFrom (Holds P.tells P.Run.state) first stream.new.gathering) stream.new.scanner kind
         (given ++ piece.now) stream.new.number) n (N.state diagnostics.new) (done_of effects.new))
-        (λ stop. (n : OutputState) (first : Gathering P P.Run) (kind : Framing) (given : List ℕ)
+        (λ stop. (n : OutputState) (first : Gathering (SpilledArchive P P.Run) SpillFault)
+        (kind : Framing) (given : List ℕ)
         → Noted (HasHandled (archive_handling first.reading)
-        (GathersFrom P.tells P.Run.state first stream.old.gathering) stream.old.scanner kind given
+        (GathersFrom (Holds P.tells P.Run.state) first stream.old.gathering) stream.old.scanner kind given
         stream.old.number) n (N.state diagnostics.old) (done_of effects.old)
         → StopsLines stop first.reading kind (given ++ piece.now) n (N.state diagnostics.new)) }
 {
     let taken = stream.take(piece, effects);
     tell(effects, diagnostics)?;
-    taken
+    match taken {
+        Ok(flow) => Ok(flow),
+        Err(AllocError) => Err(stop_of(stream.gathering.fault)),
+    }
 }
 
 // Ends the stream, and writes the line on its end.
 fn take_end<P: Spill + Drop, N: Output>(
-    stream: &GatheredStream<P, P::Run>,
+    stream: &GatheredStream<SpilledArchive<P, P::Run>, SpillFault>,
     effects: &mut Effects,
     diagnostics: &mut N,
 ) -> Result<(), SpillStop>
     requires { IsReading stream.now.scanner }
     ensures { MatchResult result
-        (λ _. (n : OutputState) (first : Gathering P P.Run) (kind : Framing) (given : List ℕ)
+        (λ _. (n : OutputState) (first : Gathering (SpilledArchive P P.Run) SpillFault)
+        (kind : Framing) (given : List ℕ)
         → Noted (HasHandled (archive_handling first.reading)
-        (GathersFrom P.tells P.Run.state first stream.now.gathering) stream.now.scanner kind given
+        (GathersFrom (Holds P.tells P.Run.state) first stream.now.gathering) stream.now.scanner kind given
         stream.now.number) n (N.state diagnostics.old) (done_of effects.old)
         → Noted (EndsInput (archive_handling first.reading) noted_line
-        (only_at_end (GathersFrom P.tells P.Run.state first stream.now.gathering)) (Stream kind)
+        (only_at_end (GathersFrom (Holds P.tells P.Run.state) first stream.now.gathering)) (Stream kind)
         given) n (N.state diagnostics.new) (done_of effects.new))
-        (λ stop. (n : OutputState) (first : Gathering P P.Run) (kind : Framing) (given : List ℕ)
+        (λ stop. (n : OutputState) (first : Gathering (SpilledArchive P P.Run) SpillFault)
+        (kind : Framing) (given : List ℕ)
         → Noted (HasHandled (archive_handling first.reading)
-        (GathersFrom P.tells P.Run.state first stream.now.gathering) stream.now.scanner kind given
+        (GathersFrom (Holds P.tells P.Run.state) first stream.now.gathering) stream.now.scanner kind given
         stream.now.number) n (N.state diagnostics.old) (done_of effects.old)
         → StopsLines stop first.reading kind given n (N.state diagnostics.new)) }
 {
     let taken = stream.end(effects);
     tell(effects, diagnostics)?;
-    taken
+    match taken {
+        Ok(()) => Ok(()),
+        Err(AllocError) => Err(SpillStop::Run(Stopped::Memory)),
+    }
 }
 
 // Reads the input to its end, or to a bad MSG-LEN, and writes the lines on it: those on a piece before
 // the next call. Returns whether something was refused.
 fn gather<P: Spill + Drop, R: Input, N: Output>(
     alloc: Global,
-    stream: &mut GatheredStream<P, P::Run>,
+    stream: &mut GatheredStream<SpilledArchive<P, P::Run>, SpillFault>,
     input: &mut R,
     diagnostics: &mut N,
 ) -> Result<bool, SpillStop>
     requires reading { IsReading stream.old.scanner }
     requires position { stream.old.scanner.position ≡ 0 }
     requires number { stream.old.number ≡ 1 }
-    ensures { (first : Gathering P P.Run) (kind : Framing)
+    ensures { (first : Gathering (SpilledArchive P P.Run) SpillFault) (kind : Framing)
         → HasHandled (archive_handling first.reading)
-        (GathersFrom P.tells P.Run.state first stream.old.gathering) stream.old.scanner kind []
+        (GathersFrom (Holds P.tells P.Run.state) first stream.old.gathering) stream.old.scanner kind []
         stream.old.number nothing
-        → GathersInput first.reading (GathersFrom P.tells P.Run.state first stream.new.gathering)
+        → GathersInput first.reading (GathersFrom (Holds P.tells P.Run.state) first stream.new.gathering)
         kind (R.state input.old) (R.state input.new) (N.state diagnostics.old)
         (N.state diagnostics.new) result }
 {

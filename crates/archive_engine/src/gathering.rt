@@ -1,27 +1,29 @@
-//! A set that the records of frames are added to, and that may be larger than memory.
+//! A set that the records of frames are added to.
 
 ghost use Rattle.std.specs.Prelude.{◌≡◌, ◌++◌, ◌∷◌, ℕ, List, OnOk};
 
-use archive_spill::{Spill, SpillFault, SpilledArchive};
+use archive_sorting::{RecordSet, SortedArchive, UnsortedRecords};
+use archive_text::AddFault;
 use driver::Effects;
 use frame_engine::{FrameHandler, Line, Reading, add_refusal, read_frame};
 use std::alloc::{AllocError, Global};
+use std::mem::replace;
 use syslog_legacy::FrameReading;
 
 /// Adds the record of each frame to a set, and notes why a frame has none.
 #[derive(Drop)]
-pub struct Gathering<P, R> {
+pub struct Gathering<S, F> {
     /// The allocator for the octets of a record.
     pub alloc: Global,
     /// How frames are read.
     pub reading: FrameReading,
     /// The set.
-    pub set: SpilledArchive<P, R>,
-    /// Whether the last record was not added because the spill failed.
-    pub spill_failed: bool,
+    pub set: S,
+    /// Why a record was not added.
+    pub fault: Option<F>,
 }
 
-impl<P: Spill + Drop> Gathering<P, P::Run> {
+impl<S: RecordSet + Drop> Gathering<S, S::Fault> {
     ghost use Rattle.std.specs.Prelude.{[]};
     ghost use Rattle.frame_engine.specs.Readings.{IsReadingOf};
     ghost use Rattle.archive_engine.specs.Gathering.{Gathered};
@@ -30,18 +32,18 @@ impl<P: Spill + Drop> Gathering<P, P::Run> {
     fn add(&mut self, read: &Reading<'_>) -> Result<(), AllocError>
         ensures gathered { OnOk result ((frame : List ℕ) (frames : List (List ℕ))
             → IsReadingOf self.old.reading frame read.now
-            → Gathered P.tells P.Run.state self.old.reading self.old.set frames
-            → Gathered P.tells P.Run.state self.old.reading self.new.set (frames ++ frame ∷ [])) }
+            → Gathered S.holds self.old.reading self.old.set frames
+            → Gathered S.holds self.old.reading self.new.set (frames ++ frame ∷ [])) }
         ensures reading { self.new.reading ≡ self.old.reading }
     {
         match read {
-            Reading::Record(view) => match self.set.add_view(view) {
+            Reading::Record(view) => match self.set.add_view(self.alloc, view) {
                 Ok(()) => Ok(()),
                 Err(fault) => Err(self.noted(fault)),
             },
             Reading::Legacy(_view) => {
                 let record = read.to_record(self.alloc)?;
-                match self.set.add(&record) {
+                match self.set.add(self.alloc, &record) {
                     Ok(()) => Ok(()),
                     Err(fault) => Err(self.noted(fault)),
                 }
@@ -50,15 +52,27 @@ impl<P: Spill + Drop> Gathering<P, P::Run> {
     }
 
     // Keeps in mind why a record was not added.
-    fn noted(&mut self, fault: SpillFault) -> AllocError
+    fn noted(&mut self, fault: S::Fault) -> AllocError
         ensures { self.new.reading ≡ self.old.reading }
     {
-        self.spill_failed = fault != SpillFault::Memory;
+        self.fault = Some(fault);
         AllocError
     }
 }
 
-impl<P: Spill + Drop> FrameHandler for Gathering<P, P::Run> {
+impl Gathering<UnsortedRecords, AddFault> {
+    ghost use Rattle.archive_sorting.specs.Records.{entries_in, entries_kept};
+    ghost use Rattle.archive_sorting.specs.Settled.{HaveSame};
+
+    /// The archive of the records that were gathered. None of them is left in the set.
+    pub fn settle(&mut self) -> SortedArchive
+        ensures { HaveSame (entries_kept self.old.set) (entries_in result) }
+    {
+        replace(&mut self.set, UnsortedRecords::new(self.alloc)).settle()
+    }
+}
+
+impl<S: RecordSet + Drop> FrameHandler for Gathering<S, S::Fault> {
     ghost use Rattle.std.proofs.Common.{inl, inr, refl};
     ghost use Rattle.frame_engine.specs.Converted.{noted_line};
     ghost use Rattle.frame_engine.specs.Handling.{nothing_at_end};
@@ -72,7 +86,7 @@ impl<P: Spill + Drop> FrameHandler for Gathering<P, P::Run> {
 
     ghost ends = { λ _. nothing_at_end };
 
-    ghost stands = { λ first now frames. GathersFrom P.tells P.Run.state first now frames };
+    ghost stands = { λ first now frames. GathersFrom S.holds first now frames };
 
     fn on_frame(
         &mut self,
@@ -97,13 +111,13 @@ impl<P: Spill + Drop> FrameHandler for Gathering<P, P::Run> {
     ghost begun = { λ d. (
       refl,
       λ h.
-          gathered_none P.tells P.Run.state d.reading d.set h,
+          gathered_none S.holds d.reading d.set h,
     ) };
 
     ghost long = { λ d n f h. inl (h, refl) };
 
     ghost passed = { λ first d frames f h stands. (
       stands.0,
-      λ k. gathered_long P.tells P.Run.state first.reading d.set frames f h (stands.1 k),
+      λ k. gathered_long S.holds first.reading d.set frames f h (stands.1 k),
     ) };
 }

@@ -10,10 +10,8 @@ mod archive_stream;
 mod faults;
 mod gathered_stream;
 mod gathering;
-mod lines;
 mod merge;
 mod migrate;
-mod reception;
 mod spill_stop;
 
 pub use archive::archive_input;

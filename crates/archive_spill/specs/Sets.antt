@@ -1,7 +1,7 @@
 -- What a set in memory and in runs holds.
-use Rattle.std.specs.Prelude.{◌≡◌, ◌≤◌, ◌⊎◌, ℕ, List, [], map, false, true}
+use Rattle.std.specs.Prelude.{◌≡◌, ◌≤◌, ◌↔◌, ◌⊎◌, ℕ, List, [], map, false, true}
 use Rattle.octet_devices.specs.Device.{InputState}
-use Rattle.archive_text.specs.Entries.{Entry}
+use Rattle.archive_text.specs.Entries.{Entry, Has}
 use Rattle.archive_pages.specs.Paged.{entries_in, room_of}
 use Rattle.archive_spill.specs.Runs.{AreKeptIn}
 use Rattle.archive_spill.specs.declared.spilled.SpilledArchive.{SpilledArchive}
@@ -32,3 +32,21 @@ pub record Holds {P R : Type 0} (tells : P → Type 0) (state : R → InputState
   where
     pub keeps : Keeps tells state s es
     pub sound : s.lost ≡ false
+
+-- it holds a list as it holds another with the same members
+pub holds_alike : {P R : Type 0} (tells : P → Type 0) (state : R → InputState) (s : SpilledArchive P R)
+    (es fs : List Entry) → ((x : Entry) → Has fs x ↔ Has es x) → Holds tells state s es → Holds tells state s fs
+holds_alike tells state s es fs same h = record {
+  keeps = record {
+    told = h.keeps.told;
+    kept = record {
+      xss = h.keeps.kept.xss;
+      runs = h.keeps.kept.runs;
+      members = λ x. (
+        λ k. (h.keeps.kept.members x).0 ((same x).0 k),
+        λ k. (same x).1 ((h.keeps.kept.members x).1 k),
+      );
+    };
+  };
+  sound = h.sound;
+}

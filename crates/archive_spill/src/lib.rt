@@ -9,6 +9,7 @@ mod fault;
 mod folder;
 mod joins;
 mod memory;
+mod record_set;
 mod room;
 mod spill;
 mod spilled;

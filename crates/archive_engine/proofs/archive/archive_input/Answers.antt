@@ -7,9 +7,3 @@ pub returns-in_default : goal.returns-in_default
 returns-in_default g c =
     let b = archive_begun c.args.reading c.args.input_framing in
     unstarted (archive_meaning c.args.reading c.args.input_framing) _ _ _ b.0 b.1 c.report.ensures.reports
-
-pub returns-in_default-new : goal.returns-in_default-new
-returns-in_default-new g c =
-    let b = archive_begun c.args.reading c.args.input_framing in
-    unstarted (archive_meaning c.args.reading c.args.input_framing) _ _ _ b.0 b.1
-    c.report-in_default-new.ensures.reports

@@ -3,6 +3,7 @@ use Rattle.std.specs.Prelude.{vec_len}
 use Rattle.octet_devices.specs.Device.{AreSmall}
 use Rattle.syslog_frame.specs.Scan.{IsReading}
 use Rattle.syslog_frame.specs.declared.framing.Framing.{Framing}
+use Rattle.archive_spill.specs.Sets.{Holds}
 use Rattle.driver.specs.Effects.{done_of, nothing}
 use Rattle.frame_engine.specs.Streams.{HasHandled}
 use Rattle.archive_engine.specs.Archived.{archive_handling}
@@ -19,9 +20,9 @@ invariant-loop-turn g l =
     record {
       reached : (first : Gathering _ _) (kind : Framing)
           → HasHandled (archive_handling first.reading)
-          (GathersFrom g.P.Spill.tells g.P.Run.Input.state first l.fn.stream.gathering) l.fn.stream.scanner kind []
+          (GathersFrom (Holds g.P.Spill.tells g.P.Run.Input.state) first l.fn.stream.gathering) l.fn.stream.scanner kind []
           l.fn.stream.number nothing
-          → Reading first.reading (GathersFrom g.P.Spill.tells g.P.Run.Input.state first l.stream.gathering)
+          → Reading first.reading (GathersFrom (Holds g.P.Spill.tells g.P.Run.Input.state) first l.stream.gathering)
           l.stream.scanner kind l.stream.number i j (g.N.Output.state l.fn.diagnostics)
           (g.N.Output.state l.diagnostics) (done_of l.effects);
       reading : IsReading l.stream.scanner;

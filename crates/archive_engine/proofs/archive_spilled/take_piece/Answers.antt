@@ -1,15 +1,16 @@
 use Rattle.std.proofs.Common.{[]}
 use Rattle.driver.specs.Effects.{done_of, written}
-use Rattle.archive_engine.proofs.SpilledLines.{both_ways, noted_more, noted_short}
+use Rattle.archive_engine.proofs.SpilledLines.{noted_more, noted_short}
 use Rattle.archive_engine.proofs.archive_spilled.take_piece.Goals as goal
 
-pub returns-clause-takes : goal.returns-clause-takes
-returns-clause-takes g c =
-    both_ways c.take-taken.result _ _ _ _
-    (λ flow p. λ n first kind given h.
+pub returns-in-Ok-clause-takes : goal.returns-in-Ok-clause-takes
+returns-in-Ok-clause-takes g c = λ n first kind given h.
     noted_more _ _ n _ _ (done_of c.args.effects.now) (done_of c.take-taken.new.effects) _ h
-    (λ k. p first kind given (written [] h.notes) k) c.in_ok-tell.ensures.wrote c.in_ok-tell.ensures.kept)
-    (λ stop short q. λ n first kind given h.
-    noted_short stop first.reading kind _ _ n _ _ (done_of c.args.effects.now) (done_of c.take-taken.new.effects) short h
-    (q first kind given (written [] h.notes) h.means) c.in_ok-tell.ensures.wrote)
-    c.take-taken.ensures.takes c.take-taken.ensures.err c.take-taken.ensures.stop
+    (λ k. c.in-Ok.ensures.takes first kind given (written [] h.notes) k) c.in_ok-tell.ensures.wrote
+    c.in_ok-tell.ensures.kept
+
+pub returns-in-Err-clause-takes : goal.returns-in-Err-clause-takes
+returns-in-Err-clause-takes g c = λ n first kind given h.
+    noted_short c.stop_of.result first.reading kind _ _ n _ _ (done_of c.args.effects.now)
+    (done_of c.take-taken.new.effects) c.stop_of.ensures h
+    (c.in-Err.ensures.err first kind given (written [] h.notes) h.means) c.in_ok-tell.ensures.wrote

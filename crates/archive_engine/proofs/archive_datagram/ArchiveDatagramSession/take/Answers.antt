@@ -4,7 +4,7 @@ use Rattle.frame_engine.proofs.SessionLemmas.{kept_more}
 use Rattle.archive_engine.proofs.archive_datagram.ArchiveDatagramSession.take.Goals as goal
 
 pub returns : goal.returns
-returns g c = λ first given before stands so_far few. (
+returns c = λ first given before stands so_far few. (
   (
     stands.0,
     stands.1,

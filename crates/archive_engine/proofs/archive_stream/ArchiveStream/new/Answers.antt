@@ -1,14 +1,22 @@
-use Rattle.std.proofs.Common.{[], refl, subst, sym}
-use Rattle.syslog_legacy.specs.declared.frame_reading.FrameReading.{FrameReading}
-use Rattle.frame_engine.specs.declared.input_framing.InputFraming.TheVariants.{Stream}
+use Rattle.std.proofs.Common.{arith, refl, sym}
 use Rattle.frame_engine.proofs.SessionLemmas.{nothing_goes_on}
-use Rattle.archive_engine.specs.Receiving.{Receives}
-use Rattle.archive_engine.proofs.StreamLemmas.{stream_start}
+use Rattle.archive_engine.proofs.GatheredSets.{holds_none}
 use Rattle.archive_engine.proofs.archive_stream.ArchiveStream.new.Goals as goal
 
 pub returns-clause-begun : goal.returns-clause-begun
-returns-clause-begun g c = λ heard.
-    let receives = subst (λ (k : FrameReading). Receives k c.open.new.self.collector.connections
-    (g.S.Store.entries c.open.new.self.collector.store) (Stream c.args.framing) []) (sym c.in_ok-open.ensures.reading)
-    (c.in_ok-open.ensures.receives heard) in
-    ((refl, refl, stream_start _ _ _ c.args.framing receives), nothing_goes_on _ _)
+returns-clause-begun c =
+    let h = rw (sym c.in_ok-stream.ensures.framing) at c.in_ok-stream.ensures.begun in (
+      (
+        holds_none _ _ c.in_ok-stream.ensures.set c.new.ensures,
+        record {
+          frames = h.frames;
+          rest = h.rest;
+          reads = h.reads;
+          stands = h.stands;
+          number_is = h.number_is;
+          room_is = omega arith;
+          goes_on = refl;
+        },
+      ),
+      nothing_goes_on _ _,
+    )

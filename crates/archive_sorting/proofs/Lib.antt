@@ -1,0 +1,4 @@
+pub mod Blocks
+pub mod SortedSpans
+pub mod Members
+pub mod Writings

@@ -1,0 +1,4 @@
+pub mod Spans
+pub mod Settled
+pub mod Within
+pub mod Records
