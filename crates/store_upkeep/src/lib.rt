@@ -13,8 +13,10 @@ mod whole_files;
 pub use compact_fault::{CompactFault, check_fault, open_fault, write_fault};
 pub use compaction::{SEGMENTS_MAX, compact};
 pub use damage::DamagedFile;
-pub use segments::{begin as begin_draft, discard as discard_draft, list as list_names};
-pub use segments::{name_of_draft, open as open_file, settle as settle_draft};
+pub use segments::{
+    begin as begin_draft, discard as discard_draft, list as list_names, name_of_draft,
+    open as open_file, settle as settle_draft,
+};
 pub use stream_disk::StreamDisk;
 pub use verification::verify;
 pub use whole_files::WholeFiles;

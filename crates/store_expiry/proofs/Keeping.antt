@@ -1,0 +1,58 @@
+-- What is left of a segment is put beside it.
+use Rattle.std.proofs.Common.{ℕ, List}
+use Rattle.disk.specs.States.{State}
+use Rattle.journal.specs.Journals.{IsOnDisk, IsSound, KeepsOthers}
+use Rattle.archive_text.specs.Entries.{Entry}
+use Rattle.archive_text.specs.Text.{text_of}
+use Rattle.record_store.specs.Segments.{IsSegmentOf}
+use Rattle.store_upkeep.specs.Compaction.{MayBePlaced, shown}
+use Rattle.store_expiry.specs.Expiry.{IsReadyRest, IsSpared, NoneIsGone, Places, Sheds, expire_draft}
+use Rattle.store_expiry.specs.Surveys.{IsFoundAt}
+use Rattle.store_expiry.specs.declared.expired.Expired.{Expired}
+use Rattle.store_expiry.specs.declared.survey.Found.{Found}
+use Rattle.store_expiry.proofs.Resting.{rest_archive, rest_may_be_placed}
+use Rattle.store_expiry.proofs.Shedding.{placed_none_gone, placed_sheds, placed_spared}
+
+module _ (x : Expired) (zero one new : State) (source draft name : List ℕ) (found : Found)
+    (f : IsFoundAt x (shown zero) source found) (aside : KeepsOthers zero one expire_draft)
+    (ready : IsReadyRest x one draft name found.period f.surveyed.entries)
+    (place : (period text : List ℕ) (es : List Entry) → MayBePlaced one draft name period text es
+    → Places one new draft name text) where
+  abbrev es : List Entry
+  es = f.surveyed.entries
+
+  abbrev left : List Entry
+  left = ready.rest.left
+
+  may : MayBePlaced one draft name found.period (text_of left) left
+  may = rest_may_be_placed x zero one source draft name found.period es f.surveyed.is_file aside ready
+
+  archive : IsSegmentOf found.period (text_of left) left
+  archive = rest_archive x found.period es left f.surveyed.is_file.archive ready.rest.selection
+
+  places : Places one new draft name (text_of left)
+  places = place found.period (text_of left) left may
+
+  pub keeps_sheds : Sheds x zero new
+  keeps_sheds =
+      placed_sheds x zero one new source draft name found.period es f.surveyed.is_file f.dated aside ready archive
+      places
+
+  pub keeps_stay : NoneIsGone x zero new
+  keeps_stay =
+      placed_none_gone x zero one new source draft name found.period es f.surveyed.is_file f.dated aside ready archive
+      places
+
+  module _ (placed : (period text : List ℕ) (es : List Entry) → MayBePlaced one draft name period text es
+      → IsOnDisk new name text) where
+    on_disk : IsOnDisk new name (text_of left)
+    on_disk = placed found.period (text_of left) left may
+
+    pub keeps_sound : IsSound new
+    keeps_sound = on_disk.sound
+
+    pub keeps_spared : IsSpared x new source
+    keeps_spared =
+        let some = f.surveyed.is.tally.some f.some in
+        placed_spared x zero one new source draft name found.period es f.surveyed.is_file f.dated aside ready archive
+        places on_disk some.some some.has some.expired

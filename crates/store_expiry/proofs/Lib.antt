@@ -1,0 +1,9 @@
+pub mod Clearing
+pub mod Finding
+pub mod Hours
+pub mod Keeping
+pub mod Resting
+pub mod Shedding
+pub mod Surveying
+pub mod Taking
+pub mod Telling

@@ -1,0 +1,144 @@
+use Rattle.std.proofs.Common.{inl, refl, ◌∙◌}
+use Rattle.std.proofs.lemmas.Result.{err_from_is_err_and}
+use Rattle.store_upkeep.specs.Compaction.{shown}
+use Rattle.store_expiry.proofs.Finding.{clear_told, none_found, some_found}
+use Rattle.store_expiry.proofs.Shedding.{clear_none, then_sheds, unchanged_sheds, unchanged_stays}
+use Rattle.store_expiry.proofs.Telling.{all_then, err_lines, found_fails, found_tells, part_then, writes_no_part}
+use Rattle.store_expiry.proofs.Telling.{writes_none}
+use Rattle.store_expiry.proofs.expiry.expire_file.Goals as goal
+
+pub returns-in_err-found-clause-sheds : goal.returns-in_err-found-clause-sheds
+returns-in_err-found-clause-sheds g c t sound =
+    unchanged_sheds c.args.expired.now (g.D.Disk.state c.args.disk.now) (g.D.Disk.state c.find.new.disk)
+    (c.find.ensures.same t)
+
+pub returns-in_err-found-clause-lines : goal.returns-in_err-found-clause-lines
+returns-in_err-found-clause-lines g c t sound =
+    let x = c.args.expired.now in
+    let zero = g.D.Disk.state c.args.disk.now in
+    let one = g.D.Disk.state c.find.new.disk in
+    let taken = (g.W.Output.state c.args.output.now).taken in
+    err_lines x zero one taken taken _ c.from_residual.result _
+    (err_from_is_err_and c.from_residual.result c.from_residual.ensures.1).1
+    (writes_no_part x zero one taken (unchanged_stays x zero one (c.find.ensures.same t)))
+
+pub returns-in_default-clause-clear : goal.returns-in_default-clause-clear
+returns-in_default-clause-clear g c t sound wet = c.in_ok-found.ensures.none t sound (none_found _ c.in_default.is)
+
+pub returns-in_default-clause-sheds : goal.returns-in_default-clause-sheds
+returns-in_default-clause-sheds g c t sound =
+    unchanged_sheds c.args.expired.now (g.D.Disk.state c.args.disk.now) (g.D.Disk.state c.find.new.disk)
+    (c.find.ensures.same t)
+
+pub returns-in_default-clause-lines : goal.returns-in_default-clause-lines
+returns-in_default-clause-lines g c t sound =
+    clear_told c.args.expired.now (g.D.Disk.state c.args.disk.now) (g.D.Disk.state c.find.new.disk)
+    (c.find.ensures.same t) c.args.name.now (g.W.Output.state c.args.output.now).taken
+    (c.in_ok-found.ensures.none t sound (none_found _ c.in_default.is))
+
+pub returns-in_err-tell-clause-sheds : goal.returns-in_err-tell-clause-sheds
+returns-in_err-tell-clause-sheds g c t sound =
+    unchanged_sheds c.args.expired.now (g.D.Disk.state c.args.disk.now) (g.D.Disk.state c.find.new.disk)
+    (c.find.ensures.same t)
+
+pub returns-in_err-tell-clause-lines : goal.returns-in_err-tell-clause-lines
+returns-in_err-tell-clause-lines g c t sound =
+    let x = c.args.expired.now in
+    let zero = g.D.Disk.state c.args.disk.now in
+    let one = g.D.Disk.state c.find.new.disk in
+    let before = (g.W.Output.state c.args.output.now).taken in
+    let after = (g.W.Output.state c.tell.new.output).taken in
+    let same = c.find.ensures.same t in
+    err_lines x zero one before after _ c.from_residual-in_err-tell.result _
+    (err_from_is_err_and c.from_residual-in_err-tell.result c.from_residual-in_err-tell.ensures.1).1
+    (part_then x zero one (unchanged_sheds x zero one same) one before before after
+    (writes_none x zero one before (unchanged_stays x zero one same))
+    (found_fails x one one c.args.name.now c.in-Some.found (some_found _ c.in-Some.found _ c.in-Some.is (c.in_ok-found.ensures.found t sound))
+    (λ period name segment. inl refl) before after c.in_err-tell.ensures))
+
+pub returns-then-dry_run-clause-clear : goal.returns-then-dry_run-clause-clear
+returns-then-dry_run-clause-clear g c t sound wet =
+    let dry = c.if-dry_run.true in absurd (cc (dry, wet))
+
+pub returns-then-dry_run-clause-sheds : goal.returns-then-dry_run-clause-sheds
+returns-then-dry_run-clause-sheds g c t sound =
+    unchanged_sheds c.args.expired.now (g.D.Disk.state c.args.disk.now) (g.D.Disk.state c.find.new.disk)
+    (c.find.ensures.same t)
+
+pub returns-then-dry_run-clause-lines : goal.returns-then-dry_run-clause-lines
+returns-then-dry_run-clause-lines g c t sound =
+    let x = c.args.expired.now in
+    let zero = g.D.Disk.state c.args.disk.now in
+    let one = g.D.Disk.state c.find.new.disk in
+    let before = (g.W.Output.state c.args.output.now).taken in
+    let after = (g.W.Output.state c.tell.new.output).taken in
+    let same = c.find.ensures.same t in
+    all_then x zero one (unchanged_sheds x zero one same) one before before after
+    (writes_none x zero one before (unchanged_stays x zero one same)) _
+    (found_tells x one one c.args.name.now c.in-Some.found (some_found _ c.in-Some.found _ c.in-Some.is (c.in_ok-found.ensures.found t sound))
+    (λ period name segment. inl refl) before after one c.in_ok-tell.ensures (λ other apart. refl))
+
+pub returns-in_err-shed-clause-sheds : goal.returns-in_err-shed-clause-sheds
+returns-in_err-shed-clause-sheds g c t sound =
+    let x = c.args.expired.now in
+    let zero = g.D.Disk.state c.args.disk.now in
+    let one = g.D.Disk.state c.find.new.disk in
+    let told = c.shed.ensures.told t in
+    let same = c.find.ensures.same told in
+    then_sheds x zero one (g.D.Disk.state c.shed.new.disk) (unchanged_sheds x zero one same)
+    (c.shed.ensures.sheds t (same.lost ∙ sound) (some_found _ c.in-Some.found _ c.in-Some.is (c.in_ok-found.ensures.found told sound)))
+
+pub returns-in_err-shed-clause-lines : goal.returns-in_err-shed-clause-lines
+returns-in_err-shed-clause-lines g c t sound =
+    let x = c.args.expired.now in
+    let zero = g.D.Disk.state c.args.disk.now in
+    let one = g.D.Disk.state c.find.new.disk in
+    let two = g.D.Disk.state c.shed.new.disk in
+    let before = (g.W.Output.state c.args.output.now).taken in
+    let after = (g.W.Output.state c.shed.new.output).taken in
+    let told = c.shed.ensures.told t in
+    let same = c.find.ensures.same told in
+    err_lines x zero two before after _ c.from_residual-in_err-shed.result _
+    (err_from_is_err_and c.from_residual-in_err-shed.result c.from_residual-in_err-shed.ensures.1).1
+    (part_then x zero one (unchanged_sheds x zero one same) two before before after
+    (writes_none x zero one before (unchanged_stays x zero one same))
+    (c.in_err-shed.ensures.lines t (same.lost ∙ sound) (some_found _ c.in-Some.found _ c.in-Some.is (c.in_ok-found.ensures.found told sound))))
+
+pub returns-in_err-shed-clause-dry : goal.returns-in_err-shed-clause-dry
+returns-in_err-shed-clause-dry g c t dry = absurd (cc (c.if-dry_run.false, dry))
+
+pub returns-clause-clear : goal.returns-clause-clear
+returns-clause-clear g c t sound wet =
+    clear_none c.args.expired.now (shown (g.D.Disk.state c.shed.new.disk)) c.args.name.now (c.in_ok-shed.ensures.gone t)
+
+pub returns-clause-sound : goal.returns-clause-sound
+returns-clause-sound g c t sound =
+    let told = c.shed.ensures.told t in
+    c.in_ok-shed.ensures.sound t ((c.find.ensures.same told).lost ∙ sound) (some_found _ c.in-Some.found _ c.in-Some.is (c.in_ok-found.ensures.found told sound))
+
+pub returns-clause-sheds : goal.returns-clause-sheds
+returns-clause-sheds g c t sound =
+    let x = c.args.expired.now in
+    let zero = g.D.Disk.state c.args.disk.now in
+    let one = g.D.Disk.state c.find.new.disk in
+    let told = c.shed.ensures.told t in
+    let same = c.find.ensures.same told in
+    then_sheds x zero one (g.D.Disk.state c.shed.new.disk) (unchanged_sheds x zero one same)
+    (c.shed.ensures.sheds t (same.lost ∙ sound) (some_found _ c.in-Some.found _ c.in-Some.is (c.in_ok-found.ensures.found told sound)))
+
+pub returns-clause-lines : goal.returns-clause-lines
+returns-clause-lines g c t sound =
+    let x = c.args.expired.now in
+    let zero = g.D.Disk.state c.args.disk.now in
+    let one = g.D.Disk.state c.find.new.disk in
+    let two = g.D.Disk.state c.shed.new.disk in
+    let before = (g.W.Output.state c.args.output.now).taken in
+    let after = (g.W.Output.state c.shed.new.output).taken in
+    let told = c.shed.ensures.told t in
+    let same = c.find.ensures.same told in
+    all_then x zero one (unchanged_sheds x zero one same) two before before after
+    (writes_none x zero one before (unchanged_stays x zero one same)) _
+    (c.in_ok-shed.ensures.lines t (same.lost ∙ sound) (some_found _ c.in-Some.found _ c.in-Some.is (c.in_ok-found.ensures.found told sound)))
+
+pub returns-clause-dry : goal.returns-clause-dry
+returns-clause-dry g c t dry = absurd (cc (c.if-dry_run.false, dry))

@@ -1,0 +1,37 @@
+use Rattle.std.proofs.Common.{subst, sym}
+use Rattle.record_store.specs.Names.{IsSegment}
+use Rattle.store_upkeep.specs.Compaction.{shown}
+use Rattle.store_expiry.proofs.Finding.{clear_spared, clear_surveyed, clear_unnamed, found_here}
+use Rattle.store_expiry.proofs.Shedding.{clear_still, unchanged_sheds}
+use Rattle.store_expiry.proofs.Taking.{not_off, on_not}
+use Rattle.store_expiry.proofs.expiry.find.Goals as goal
+
+pub returns-in_default-clause-none : goal.returns-in_default-clause-none
+returns-in_default-clause-none g c t sound none =
+    clear_unnamed c.args.expired.now (shown (g.D.Disk.state c.args.disk.now)) c.args.name.now
+    (λ period text segment.
+    absurd (cc (c.in_default.ensures.only period text (subst (IsSegment period) (sym c.as_octets.ensures.value) segment))))
+
+pub returns-then-spares-clause-none : goal.returns-then-spares-clause-none
+returns-then-spares-clause-none g c t sound none =
+    clear_spared c.args.expired.now (shown (g.D.Disk.state c.args.disk.now)) c.args.name.now
+    (λ period segment. c.spares.ensures c.if-spares.true period
+    (subst (IsSegment period) (sym c.as_octets-2.ensures.value) segment))
+
+pub returns-then-not-survey-clause-none : goal.returns-then-not-survey-clause-none
+returns-then-not-survey-clause-none g c t sound none =
+    let x = c.args.expired.now in
+    let zero = g.D.Disk.state c.args.disk.now in
+    let one = g.D.Disk.state c.survey_segment.new.disk in
+    let segment = subst (IsSegment c.in-Some.period) c.as_octets.ensures.value c.in-Some.ensures.some.1 in
+    clear_still x zero one c.args.name.now (unchanged_sheds x zero one (c.survey_segment.ensures.same t))
+    (clear_surveyed x (shown zero) c.args.name.now c.in-Some.period c.in_ok-survey.survey
+    (c.in_ok-survey.ensures.surveyed t sound segment) (on_not c.in_ok-survey.survey.tally.expired c.if-not-survey.true))
+
+pub returns-clause-found : goal.returns-clause-found
+returns-clause-found g c t sound =
+    let segment = subst (IsSegment c.in-Some.period) c.as_octets.ensures.value c.in-Some.ensures.some.1 in
+    found_here c.args.expired.now (g.D.Disk.state c.args.disk.now) (g.D.Disk.state c.survey_segment.new.disk)
+    c.args.name.now (record { period = c.in-Some.period; survey = c.in_ok-survey.survey })
+    (c.survey_segment.ensures.same t) c.in-Some.ensures.some.0 (c.in_ok-survey.ensures.surveyed t sound segment)
+    (not_off c.in_ok-survey.survey.tally.expired c.if-not-survey.false)

@@ -1,0 +1,13 @@
+use Rattle.archive_streams.specs.Entries.{IsOpen, still_to_come}
+use Rattle.store_expiry.proofs.Surveying.{SurveysOf}
+use Rattle.store_expiry.proofs.survey.survey_archive.Given as goal
+
+abbrev pub invariant-entries : goal.invariant-entries
+invariant-entries g l = record {
+  unclosed : IsOpen l.entries;
+  surveys : SurveysOf l.expired l.period l.entries l.hasher l.at l.tally (g.R.Input.state l.fn.reader)
+      (g.R.Input.state l.reader);
+}
+
+abbrev pub decreases-entries : goal.decreases-entries
+decreases-entries g l = still_to_come l.entries

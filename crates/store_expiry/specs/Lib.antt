@@ -1,0 +1,4 @@
+pub mod Expired
+pub mod Expiry
+pub mod Lines
+pub mod Surveys

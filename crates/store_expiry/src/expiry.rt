@@ -1,0 +1,160 @@
+//! What is expired is removed from a store's folder.
+ghost use Rattle.std.specs.Prelude.{◌≡◌, Contains, IfOk, IfSome, IsNone, List, OnOk, ℕ, ⊤, false, true};
+ghost use Rattle.disk.specs.Calls.{IsUnchanged};
+ghost use Rattle.journal.specs.Journals.{IsSound};
+ghost use Rattle.store_upkeep.specs.Compaction.{AreListed, shown};
+ghost use Rattle.store_expiry.specs.Expiry.{AreClear, IsClear, Sheds};
+ghost use Rattle.store_expiry.specs.Lines.{WritesLines};
+ghost use Rattle.store_expiry.specs.Surveys.{IsFoundAt};
+
+use crate::expired::Expired;
+use crate::fault::ExpireFault;
+use crate::line::tell;
+use crate::removal::shed;
+use crate::survey::{Found, survey_segment};
+use disk::FileName;
+use octet_devices::Output;
+use std::alloc::Global;
+use store_reading::segment_period;
+use store_upkeep::{CompactFault, StreamDisk, list_names};
+
+// What is found of the file of a name, where it is a segment that has an expired record. It is not read if
+// the day in its name tells that it has none.
+fn find<D: StreamDisk>(
+    alloc: Global,
+    disk: &mut D,
+    expired: &Expired,
+    name: &FileName,
+) -> Result<Option<Found>, CompactFault>
+    ensures found { IfOk result (λ found. D.tells disk.new → IsSound (D.state disk.old)
+        → IfSome found (IsFoundAt expired.now (shown (D.state disk.new)) name.now)) }
+    ensures none { IfOk result (λ found. D.tells disk.new → IsSound (D.state disk.old)
+        → IsNone found → IsClear expired.now (shown (D.state disk.new)) name.now) }
+    ensures same { D.tells disk.new → IsUnchanged (D.state disk.old) (D.state disk.new) }
+    ensures told { D.tells disk.new → D.tells disk.old }
+{
+    let Some(period) = segment_period(name.as_octets()) else {
+        return Ok(None);
+    };
+    if expired.spares(name.as_octets()) {
+        return Ok(None);
+    }
+    let survey = survey_segment(alloc, disk, expired, name, &period)?;
+    if !survey.tally.expired {
+        return Ok(None);
+    }
+    Ok(Some(Found { period, survey }))
+}
+
+// Removes what is expired of the file of a name, where that is a segment.
+fn expire_file<D: StreamDisk, W: Output>(
+    alloc: Global,
+    disk: &mut D,
+    expired: &Expired,
+    dry_run: bool,
+    name: &FileName,
+    output: &mut W,
+) -> Result<(), ExpireFault>
+    ensures clear { OnOk result (D.tells disk.new → IsSound (D.state disk.old) → dry_run ≡ false
+        → IsClear expired.now (shown (D.state disk.new)) name.now) }
+    ensures sound { OnOk result (D.tells disk.new → IsSound (D.state disk.old)
+        → IsSound (D.state disk.new)) }
+
+    // whatever the result is: so at every moment
+    ensures sheds { D.tells disk.new → IsSound (D.state disk.old)
+        → Sheds expired.now (D.state disk.old) (D.state disk.new) }
+    ensures lines { D.tells disk.new → IsSound (D.state disk.old)
+        → WritesLines expired.now (D.state disk.old) (D.state disk.new) (W.state output.old).taken
+        (W.state output.new).taken (λ (n : List ℕ). n ≡ name.now) result }
+    ensures dry { D.tells disk.new → dry_run ≡ true
+        → IsUnchanged (D.state disk.old) (D.state disk.new) }
+
+    ensures told { D.tells disk.new → D.tells disk.old }
+{
+    let Some(found) = find(alloc, disk, expired, name)? else {
+        return Ok(());
+    };
+    if dry_run {
+        tell(alloc, &found, output)?;
+        return Ok(());
+    }
+    shed(alloc, disk, expired, name, &found, output)?;
+    Ok(())
+}
+
+// Removes what is expired of the files of these names, one behind the other.
+fn expire_each<D: StreamDisk, W: Output>(
+    alloc: Global,
+    disk: &mut D,
+    expired: &Expired,
+    dry_run: bool,
+    names: &[FileName],
+    output: &mut W,
+) -> Result<(), ExpireFault>
+    ensures clear { OnOk result (D.tells disk.new → IsSound (D.state disk.old) → dry_run ≡ false
+        → (name : List ℕ) → Contains names.now name
+        → IsClear expired.now (shown (D.state disk.new)) name) }
+
+    // whatever the result is: so at every moment
+    ensures sheds { D.tells disk.new → IsSound (D.state disk.old)
+        → Sheds expired.now (D.state disk.old) (D.state disk.new) }
+    ensures lines { D.tells disk.new → IsSound (D.state disk.old)
+        → WritesLines expired.now (D.state disk.old) (D.state disk.new) (W.state output.old).taken
+        (W.state output.new).taken (Contains names.now) result }
+    ensures dry { D.tells disk.new → dry_run ≡ true
+        → IsUnchanged (D.state disk.old) (D.state disk.new) }
+
+    ensures told { D.tells disk.new → D.tells disk.old }
+{
+    'names: for name in names {
+        expire_file(alloc, disk, expired, dry_run, name, output)?;
+    }
+    Ok(())
+}
+
+/// Removes what is expired from the segments of a store's folder. A segment that has only expired records
+/// is removed; of another one that has some, those that are not expired are written as a segment first,
+/// which is on the disk under its name before the old one is removed. One that has none stays, and is not
+/// read if the day in its name tells so. Journals stay, and names that do not count.
+///
+/// Before a segment is removed its line is written: `PERIOD COUNT OCTETS SHA256`, what it was called after,
+/// how many records and octets it had, and its SHA-256. The lines are in the order of the names. With
+/// `dry_run` the lines are written, and nothing is changed.
+///
+/// Each segment that is read is read to its end first: it must be an archive of entries of its period, and
+/// its name must have the SHA-256 of its octets. What is written is read again before it gets its name.
+///
+/// # Errors
+/// The first fault, and at which file. Nothing of a damaged segment is removed. Whatever the fault is, what
+/// is not expired is held as before; the next call goes on.
+pub fn expire<D: StreamDisk, W: Output>(
+    alloc: Global,
+    disk: &mut D,
+    expired: &Expired,
+    dry_run: bool,
+    output: &mut W,
+) -> Result<(), ExpireFault>
+    // no segment has an expired record
+    ensures clear { OnOk result (D.tells disk.new → IsSound (D.state disk.old) → dry_run ≡ false
+        → AreClear expired.now (shown (D.state disk.new))) }
+
+    // whatever the result is, what is not expired is held as before, and nothing else: so at every moment
+    ensures sheds { D.tells disk.new → IsSound (D.state disk.old)
+        → Sheds expired.now (D.state disk.old) (D.state disk.new) }
+
+    // whatever the result is, each segment that is gone was told; and in the end each that had an expired
+    // record
+    ensures lines { D.tells disk.new → IsSound (D.state disk.old)
+        → WritesLines expired.now (D.state disk.old) (D.state disk.new) (W.state output.old).taken
+        (W.state output.new).taken (λ (n : List ℕ). ⊤) result }
+
+    // nothing is changed if that is asked for
+    ensures dry { D.tells disk.new → dry_run ≡ true
+        → IsUnchanged (D.state disk.old) (D.state disk.new) }
+
+    ensures told { D.tells disk.new → D.tells disk.old }
+{
+    let names = list_names(alloc, disk)?;
+    expire_each(alloc, disk, expired, dry_run, names.as_slice(), output)?;
+    Ok(())
+}
