@@ -105,12 +105,12 @@ agree_whole zero state one other at n same none before agrees sound =
 
 -- ---- a draft is brought under a name
 
--- where no file is there
-pub none_puts : (zero one two : State) (draft name text : List ℕ) → IsUnchanged zero one
-    → shown_now (zero.entries name) ≡ None → LeavesOldOr one two name text → ShowsOldOr one two name text
+-- in the place of none, or of one of the same octets
+pub placed_puts : (zero one two : State) (draft name text : List ℕ) → IsUnchanged zero one
+    → ShowsAtMost zero name text → LeavesOldOr one two name text → ShowsOldOr one two name text
     → KeepsOrSettlesApart one two draft name → Puts zero two draft name text
-none_puts zero one two draft name text same none leaves shows others = record {
-  shown = inl none;
+placed_puts zero one two draft name text same shown leaves shows others = record {
+  shown = shown;
   leaves = λ octets may. ⊎_elim
       (λ before. inl (subst (λ (e : DiskEntry). NameMayLeave e octets) (same.entries name) before))
       (λ (whole : octets ≡ Some text). inr whole)
@@ -122,48 +122,11 @@ none_puts zero one two draft name text same none leaves shows others = record {
       (others other from to);
 }
 
--- what a sync of the file and of the folder leaves
-abbrev pub LeavesSettled : State → State → List ℕ → Type 0
-LeavesSettled old new name = (file : File) (octets : Option (List ℕ)) → Shows old name file
-    → NameMayLeave (new.entries name) octets → NameMayLeave (old.entries name) octets ⊎ (octets ≡ Some file.shown)
-
-same_file : (zero one : State) (draft name : List ℕ) (file : File) → IsUnchanged zero one → Shows zero draft file
-    → AreSame zero draft name → (found : File) × Shows one name found × (found.shown ≡ file.shown)
-same_file zero one draft name file same shows alike =
-    let text : shown_now (zero.entries name) ≡ Some file.shown =
-    sym (alike shows.sound) ∙ ap (λ (o : Option File). option_map (λ (f : File). f.shown) o) shows.now in
-    let found = shown_file (zero.entries name).now file.shown text in (
-      found.0,
-      same_shows zero one name found.0 same (record { now = found.1; sound = shows.sound }),
-      found.2,
-    )
-
--- where one of the same octets is
-pub same_puts : (zero one two : State) (draft name : List ℕ) (file : File) → IsUnchanged zero one
-    → Shows zero draft file → AreSame zero draft name → LeavesSettled one two name
-    → ShowsTheSame one two → KeepsOrSettlesOthers one two name → Puts zero two draft name file.shown
-same_puts zero one two draft name file same shows alike leaves still others =
-    let found = same_file zero one draft name file same shows alike in
-    record {
-      shown = inr (sym (alike shows.sound)
-          ∙ ap (λ (o : Option File). option_map (λ (f : File). f.shown) o) shows.now);
-      leaves = λ octets may. ⊎_elim
-          (λ before. inl (subst (λ (e : DiskEntry). NameMayLeave e octets) (same.entries name) before))
-          (λ (whole : octets ≡ Some found.0.shown). inr (whole ∙ ap (λ (t : List ℕ). Some t) found.2))
-          (leaves found.0 octets found.1 may);
-      shows = inl (still name ∙ ap shown_now (same.entries name));
-      others = λ other from to. ⊎_elim
-          (λ as_it_was. inl (as_it_was ∙ same.entries other))
-          (λ on_disk. inr (on_disk ∙ ap kept (same.entries other)))
-          (others other to);
-    }
-
-pub same_on_disk : (zero one two : State) (draft name : List ℕ) (file : File) → IsUnchanged zero one
-    → Shows zero draft file → AreSame zero draft name
-    → ((found : File) → Shows one name found → IsOnDisk two name found.shown) → IsOnDisk two name file.shown
-same_on_disk zero one two draft name file same shows alike on_disk =
-    let found = same_file zero one draft name file same shows alike in
-    subst (IsOnDisk two name) found.2 (on_disk found.0 found.1)
+-- the other file shows what a draft has, if it was found to be the same
+pub same_at_most : (state : State) (draft name : List ℕ) (file : File) → Shows state draft file
+    → AreSame state draft name → ShowsAtMost state name file.shown
+same_at_most state draft name file shows alike =
+    inr (sym (alike shows.sound) ∙ ap (λ (o : Option File). option_map (λ (f : File). f.shown) o) shows.now)
 
 -- ---- what is held then
 

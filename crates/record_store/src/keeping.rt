@@ -5,13 +5,12 @@ ghost use Rattle.disk.specs.Calls.{IsUnchanged};
 ghost use Rattle.disk.specs.Files.{File};
 ghost use Rattle.disk.specs.Memory.{shown_now};
 ghost use Rattle.journal.specs.Journals.{IsOnDisk, IsSound, Shows};
-ghost use Rattle.record_store.specs.Keeping.{AgreeAt, AreOther, AreSame, Brings, DifferAt};
+ghost use Rattle.record_store.specs.Keeping.{AgreeAt, AreOther, AreSame, Brings, DifferAt, ShowsAtMost};
 ghost use Rattle.record_store.specs.Names.{IsSegment};
 
 use crate::RecordStore;
 use crate::segment::{SegmentDraft, hexadecimal, name_of_segment, place};
 use disk::{Disk, DiskFault, FileName};
-use journal::settle;
 use std::alloc::{AllocError, Global};
 use thiserror::Error;
 
@@ -146,8 +145,30 @@ fn is_there<D: Disk>(disk: &mut D, name: &FileName) -> Result<bool, DiskFault>
     }
 }
 
-// Brings a draft to the disk under a name, where no file is there or one of the same octets; `false`
-// where one of other octets is.
+// Whether a draft may be given a name: no file has it, or one of the same octets.
+fn may_take<D: Disk>(disk: &mut D, draft: &FileName, name: &FileName) -> Result<bool, DiskFault>
+    ensures may { IfOk result (λ may. IsTrue may → D.tells disk.new → (file : File)
+        → Shows (D.state disk.old) draft.now file
+        → ShowsAtMost (D.state disk.old) name.now file.shown) }
+    ensures other_octets { IfOk result (λ may. IsTrue may ⊎ (D.tells disk.new
+        → AreOther (D.state disk.old) draft.now name.now)) }
+    ensures same { D.tells disk.new → IsUnchanged (D.state disk.old) (D.state disk.new) }
+    ensures told { D.tells disk.new → D.tells disk.old }
+    ensures failed { IsErrOf result DiskFault.Failed → D.has_failed disk.new }
+    ensures full { IsErrOf result DiskFault.Full → D.has_failed disk.new }
+    ensures missing { D.tells disk.new → IsSound (D.state disk.old)
+        → IsErrOf result DiskFault.Missing → IsNone ((D.state disk.old).entries draft.now).now }
+    ensures not_exists { D.tells disk.new → ¬ (IsErrOf result DiskFault.Exists) }
+{
+    if !is_there(disk, name)? {
+        return Ok(true);
+    }
+    let same = are_same(disk, draft, name)?;
+    Ok(same)
+}
+
+// Brings a draft to the disk under a name, where no file is there or one of the same octets, whose place
+// it takes: that one may have been removed since it was compared. `false` where one of other octets is.
 fn bring<D: Disk>(disk: &mut D, draft: &FileName, name: &FileName) -> Result<bool, DiskFault>
     ensures brought { IfOk result (λ done. IsTrue done → D.tells disk.new → (file : File)
         → Shows (D.state disk.old) draft.now file → name.now ≢ draft.now
@@ -168,11 +189,7 @@ fn bring<D: Disk>(disk: &mut D, draft: &FileName, name: &FileName) -> Result<boo
         → IsErrOf result DiskFault.Missing → IsNone ((D.state disk.old).entries draft.now).now }
     ensures not_exists { D.tells disk.new → ¬ (IsErrOf result DiskFault.Exists) }
 {
-    if is_there(disk, name)? {
-        if are_same(disk, draft, name)? {
-            settle(disk, name)?;
-            return Ok(true);
-        }
+    if !may_take(disk, draft, name)? {
         return Ok(false);
     }
     place(disk, draft, name)?;
@@ -187,9 +204,9 @@ impl SegmentDraft {
     ghost use Rattle.record_store.specs.Segments.{Drafts, GrowsBeside, OthersSettle, draft_of};
     ghost use Rattle.record_store.specs.Segments.{segment_name};
     /// Brings the segment to the disk under its name, `DAY.HEX.archive` with the SHA-256 of its
-    /// octets, as `finish` does, but looks first at what is there: a file of these octets is
-    /// brought to the disk, and the draft is left; one of other octets stays, and is reported. So
-    /// nothing is presumed of the folder. It fails as the variants of [`KeepFault`] say.
+    /// octets, as `finish` does, but looks first at what is there: the draft takes the place of a file
+    /// of these octets; one of other octets stays, and is reported. So nothing is presumed of the
+    /// folder. It fails as the variants of [`KeepFault`] say.
     pub fn keep<D: Disk>(self, alloc: Global, disk: &mut D, day: &[u8]) -> Result<(), KeepFault>
         ensures held { OnOk result (D.tells disk.new → (es received : List Entry)
             → IsDraftOf self (D.state disk.old) day.now es received

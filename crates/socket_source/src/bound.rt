@@ -1,10 +1,12 @@
 //! The sockets of the listeners.
 ghost use Rattle.std.specs.Prelude.{◌≡◌, ◌≤◌, length, true, IfOk, IsSome};
+ghost use Rattle.socket_source.specs.Kinds.{HasSenders, is_addressed};
 
 use crate::listener::{Inherited, Listener};
 use crate::refusal::{Refusal, refusal_of};
 use crate::system::{
-    bind_datagrams, bound_port, check, listen_at, raise_receive_buffer, takes_connections,
+    bind_datagrams, bound_port, check, has_addresses, listen_at, raise_receive_buffer,
+    takes_connections,
 };
 use crate::unix_path::bind_path;
 use mio::net::{TcpListener, TcpStream, UdpSocket};
@@ -39,7 +41,9 @@ fn streams(socket: OwnedFd, framing: Framing) -> Bound {
     }
 }
 
-fn datagrams(socket: OwnedFd, addressed: bool) -> Bound {
+fn datagrams(socket: OwnedFd, addressed: bool) -> Bound
+    ensures { is_addressed result ≡ addressed }
+{
     Bound::Datagrams {
         socket: UdpSocket::from(socket),
         addressed,
@@ -75,9 +79,8 @@ fn take_inherited(number: u16, inherited: Inherited) -> io::Result<Bound> {
     let owned = unsafe { OwnedFd::from_raw_fd(i32::from(number)) };
     match inherited {
         Inherited::Udp => {
-            let socket = UdpSocket::from(owned);
-            let addressed = socket.local_addr().is_ok();
-            Ok(Bound::Datagrams { socket, addressed })
+            let addressed = has_addresses(owned.as_raw_fd())?;
+            Ok(datagrams(owned, addressed))
         }
         Inherited::Counted => inherited_streams(owned, Framing::Counted),
         Inherited::Lf => inherited_streams(owned, Framing::Lf),
@@ -97,7 +100,9 @@ pub(crate) fn bind(
     alloc: Global,
     listener: Listener<'_>,
     inherited: u16,
-) -> io::Result<Bound> {
+) -> io::Result<Bound>
+    ensures { IfOk result (HasSenders listener.entry) }
+{
     match listener {
         Listener::Udp(addr) => Ok(datagrams(bind_datagrams(addr)?, true)),
         Listener::Counted(addr) => Ok(streams(listen_at(addr)?, Framing::Counted)),

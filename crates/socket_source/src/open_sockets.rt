@@ -324,6 +324,8 @@ impl OpenSockets {
         requires { 0 < share.frames }
         ensures lawful { IfLawful (standing_of self.old) (standing_of self.new) (length buf.new) result.step }
         ensures bounded { IfSome result.step (IsWithinShare share (framings_of self.new) buf.new) }
+        ensures from { IfSome (slice_get self.old.listeners.items socket) (λ bound.
+            is_addressed bound ≡ true → IfSome result.step HasSender) }
     {
         match self.listeners.get(socket) {
             Some(Bound::Streams { .. }) => match self.admit_arrived(now) {

@@ -185,16 +185,39 @@ pub(crate) fn listen_at(addr: SocketAddr) -> io::Result<OwnedFd> {
     Ok(socket)
 }
 
-/// The port that a socket of IPv4 or IPv6 is bound to. None if it is another socket, or is not bound.
-/// An error if it is no socket.
-pub(crate) fn bound_port(fd: RawFd) -> io::Result<Option<u16>> {
+// The family of a socket's address, and the octets where IPv4 and IPv6 have its port. An error if it is no
+// socket.
+fn own_address(fd: RawFd) -> io::Result<(i32, u16)> {
     let mut address = [0u8; c::_SS_SIZE];
     let mut len = c::_SS_SIZE as u32;
     check(unsafe { c::getsockname(fd, &mut address, &mut len) })?;
     let family = i32::from(u16::from_ne_bytes([address[0], address[1]]));
-    let port = u16::from_be_bytes([address[2], address[3]]);
-    let has_port = (family == c::AF_INET || family == c::AF_INET6) && port > 0;
-    Ok(has_port.then_some(port))
+    Ok((family, u16::from_be_bytes([address[2], address[3]])))
+}
+
+// Whether a family is IPv4 or IPv6.
+fn is_internet(family: i32) -> bool {
+    family == c::AF_INET || family == c::AF_INET6
+}
+
+/// The port that a socket of IPv4 or IPv6 is bound to. None if it is another socket, or is not bound.
+/// An error if it is no socket.
+pub(crate) fn bound_port(fd: RawFd) -> io::Result<Option<u16>> {
+    let (family, port) = own_address(fd)?;
+    Ok((is_internet(family) && port > 0).then_some(port))
+}
+
+/// Whether the senders of a socket's datagrams have addresses of IPv4 or IPv6; those of a Unix socket have
+/// none. An error if it is another socket, or none.
+pub(crate) fn has_addresses(fd: RawFd) -> io::Result<bool> {
+    let (family, _port) = own_address(fd)?;
+    if is_internet(family) {
+        return Ok(true);
+    }
+    if family == c::AF_UNIX {
+        return Ok(false);
+    }
+    Err(io::Error::new(io::ErrorKind::InvalidInput, "a socket of another kind"))
 }
 
 // Linux's error for a call that this kind of socket does not have
