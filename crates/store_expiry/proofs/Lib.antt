@@ -1,3 +1,4 @@
+pub mod Causing
 pub mod Clearing
 pub mod Finding
 pub mod Hours

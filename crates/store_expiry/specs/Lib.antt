@@ -1,3 +1,4 @@
+pub mod Causes
 pub mod Expired
 pub mod Expiry
 pub mod Lines

@@ -1,5 +1,5 @@
 //! What is expired.
-ghost use Rattle.std.specs.Prelude.{◌≡◌, ◌↔◌, IsTrue, List, ℕ};
+ghost use Rattle.std.specs.Prelude.{◌↔◌, IsTrue, List, ℕ};
 ghost use Rattle.archive_text.specs.Entries.{Entry};
 ghost use Rattle.archive_text.specs.EntryViews.{entry_of};
 ghost use Rattle.record_store.specs.Holdings.{IsOfPeriod};

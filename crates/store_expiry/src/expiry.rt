@@ -1,8 +1,10 @@
 //! What is expired is removed from a store's folder.
-ghost use Rattle.std.specs.Prelude.{◌≡◌, Contains, IfOk, IfSome, IsNone, List, OnOk, ℕ, ⊤, false, true};
+ghost use Rattle.std.specs.Prelude.{◌≡◌, Contains, IfErr, IfOk, IfSome, IsNone, List, OnOk, ℕ};
+ghost use Rattle.std.specs.Prelude.{⊤, false, true};
 ghost use Rattle.disk.specs.Calls.{IsUnchanged};
 ghost use Rattle.journal.specs.Journals.{IsSound};
-ghost use Rattle.store_upkeep.specs.Compaction.{AreListed, shown};
+ghost use Rattle.store_upkeep.specs.Compaction.{shown};
+ghost use Rattle.store_expiry.specs.Causes.{IsDamagedFile, IsExpireCause, TellsCause};
 ghost use Rattle.store_expiry.specs.Expiry.{AreClear, IsClear, Sheds};
 ghost use Rattle.store_expiry.specs.Lines.{WritesLines};
 ghost use Rattle.store_expiry.specs.Surveys.{IsFoundAt};
@@ -16,7 +18,7 @@ use disk::FileName;
 use octet_devices::Output;
 use std::alloc::Global;
 use store_reading::segment_period;
-use store_upkeep::{CompactFault, StreamDisk, list_names};
+use store_upkeep::{StreamDisk, list_names};
 
 // What is found of the file of a name, where it is a segment that has an expired record. It is not read if
 // the day in its name tells that it has none.
@@ -25,11 +27,13 @@ fn find<D: StreamDisk>(
     disk: &mut D,
     expired: &Expired,
     name: &FileName,
-) -> Result<Option<Found>, CompactFault>
+) -> Result<Option<Found>, ExpireFault>
     ensures found { IfOk result (λ found. D.tells disk.new → IsSound (D.state disk.old)
         → IfSome found (IsFoundAt expired.now (shown (D.state disk.new)) name.now)) }
     ensures none { IfOk result (λ found. D.tells disk.new → IsSound (D.state disk.old)
         → IsNone found → IsClear expired.now (shown (D.state disk.new)) name.now) }
+    ensures cause { IfErr result (λ fault. D.tells disk.new → IsSound (D.state disk.old) → (n : ℕ)
+        → IsExpireCause (IsDamagedFile (shown (D.state disk.new))) n n fault) }
     ensures same { D.tells disk.new → IsUnchanged (D.state disk.old) (D.state disk.new) }
     ensures told { D.tells disk.new → D.tells disk.old }
 {
@@ -69,6 +73,9 @@ fn expire_file<D: StreamDisk, W: Output>(
     ensures dry { D.tells disk.new → dry_run ≡ true
         → IsUnchanged (D.state disk.old) (D.state disk.new) }
 
+    ensures cause { D.tells disk.new → IsSound (D.state disk.old)
+        → TellsCause (IsDamagedFile (shown (D.state disk.new))) (W.state output.old).failures
+        (W.state output.new).failures result }
     ensures told { D.tells disk.new → D.tells disk.old }
 {
     let Some(found) = find(alloc, disk, expired, name)? else {
@@ -104,6 +111,9 @@ fn expire_each<D: StreamDisk, W: Output>(
     ensures dry { D.tells disk.new → dry_run ≡ true
         → IsUnchanged (D.state disk.old) (D.state disk.new) }
 
+    ensures cause { D.tells disk.new → IsSound (D.state disk.old)
+        → TellsCause (IsDamagedFile (shown (D.state disk.new))) (W.state output.old).failures
+        (W.state output.new).failures result }
     ensures told { D.tells disk.new → D.tells disk.old }
 {
     'names: for name in names {
@@ -151,6 +161,11 @@ pub fn expire<D: StreamDisk, W: Output>(
     // nothing is changed if that is asked for
     ensures dry { D.tells disk.new → dry_run ≡ true
         → IsUnchanged (D.state disk.old) (D.state disk.new) }
+
+    // a segment that is told as damaged is, and the output failed just where that is told
+    ensures cause { D.tells disk.new → IsSound (D.state disk.old)
+        → TellsCause (IsDamagedFile (shown (D.state disk.new))) (W.state output.old).failures
+        (W.state output.new).failures result }
 
     ensures told { D.tells disk.new → D.tells disk.old }
 {

@@ -1,8 +1,9 @@
 //! What is left of a segment gets its name.
-ghost use Rattle.std.specs.Prelude.{◌≡◌, IsTrue, List, OnOk, ℕ, false};
+ghost use Rattle.std.specs.Prelude.{List, OnOk, ℕ};
 ghost use Rattle.journal.specs.Journals.{IsOnDisk, IsSound};
 ghost use Rattle.archive_text.specs.Entries.{Entry};
 ghost use Rattle.store_upkeep.specs.Compaction.{MayBePlaced, shown};
+ghost use Rattle.store_expiry.specs.Causes.{TellsCause, none_damaged};
 ghost use Rattle.store_expiry.specs.Expiry.{IsSpared, NoneIsGone, Places, Sheds};
 ghost use Rattle.store_expiry.specs.Surveys.{IsFoundAt};
 
@@ -55,6 +56,7 @@ pub fn keep_left<D: StreamDisk>(
         → IsFoundAt expired.now (shown (D.state disk.old)) name.now found.now
         → NoneIsGone expired.now (D.state disk.old) (D.state disk.new) }
 
+    ensures cause { (n : ℕ) → TellsCause none_damaged n n result }
     ensures told { D.tells disk.new → D.tells disk.old }
 {
     if !found.survey.tally.left {

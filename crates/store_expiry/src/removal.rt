@@ -2,6 +2,7 @@
 ghost use Rattle.std.specs.Prelude.{◌≡◌, ◌≢◌, List, None, OnOk, ℕ};
 ghost use Rattle.journal.specs.Journals.{IsSound};
 ghost use Rattle.store_upkeep.specs.Compaction.{shown};
+ghost use Rattle.store_expiry.specs.Causes.{TellsCause, none_damaged};
 ghost use Rattle.store_expiry.specs.Expiry.{IsSpared, Sheds};
 ghost use Rattle.store_expiry.specs.Lines.{WritesLines};
 ghost use Rattle.store_expiry.specs.Surveys.{IsFoundAt};
@@ -60,6 +61,8 @@ pub fn shed<D: StreamDisk, W: Output>(
         → WritesLines expired.now (D.state disk.old) (D.state disk.new) (W.state output.old).taken
         (W.state output.new).taken (λ (n : List ℕ). n ≡ name.now) result }
 
+    ensures cause { TellsCause none_damaged (W.state output.old).failures
+        (W.state output.new).failures result }
     ensures told { D.tells disk.new → D.tells disk.old }
 {
     keep_left(alloc, disk, expired, name, found)?;

@@ -1,13 +1,11 @@
 //! What is left of a segment is written anew.
-ghost use Rattle.std.specs.Prelude.{◌≡◌, IfOk, IsTrue, List, OnOk, Some, ℕ, false};
-ghost use Rattle.disk.specs.Calls.{IsUnchanged};
+ghost use Rattle.std.specs.Prelude.{◌≡◌, IfOk, List, OnOk, Some, ℕ};
 ghost use Rattle.journal.specs.Journals.{IsSound, KeepsOthers};
 ghost use Rattle.archive_text.specs.Entries.{Entry};
 ghost use Rattle.archive_text.specs.Text.{IsArchive, text_of};
 ghost use Rattle.archive_text.specs.declared.limits.TheConstants.{ENTRY_MAX};
-ghost use Rattle.record_store.specs.Names.{IsSegment};
-ghost use Rattle.record_store.specs.Segments.{ShowsNoMore};
 ghost use Rattle.store_upkeep.specs.Compaction.{shown};
+ghost use Rattle.store_expiry.specs.Causes.{TellsCause, none_damaged};
 ghost use Rattle.store_expiry.specs.Expiry.{IsReadyRest, IsRestOf, expire_draft};
 ghost use Rattle.store_expiry.specs.Surveys.{IsSegmentFile};
 
@@ -122,6 +120,7 @@ pub fn prepare_rest<D: StreamDisk>(
         → IsReadyRest expired.now (D.state disk.new) rest.draft rest.name period.now es) }
     ensures others { D.tells disk.new
         → KeepsOthers (D.state disk.old) (D.state disk.new) expire_draft }
+    ensures cause { (n : ℕ) → TellsCause none_damaged n n result }
     ensures told { D.tells disk.new → D.tells disk.old }
 {
     let draft = draft_name(alloc)?;

@@ -1,13 +1,16 @@
 //! What a segment has.
-ghost use Rattle.std.specs.Prelude.{◌≡◌, IfErr, IfOk};
+ghost use Rattle.std.specs.Prelude.{IfErr, IfOk, ℕ};
 ghost use Rattle.disk.specs.Calls.{IsUnchanged};
+ghost use Rattle.disk.specs.States.{Files};
 ghost use Rattle.journal.specs.Journals.{IsSound};
 ghost use Rattle.record_store.specs.Names.{IsSegment};
 ghost use Rattle.store_reading.specs.Damages.{IsDamagedArchive, OfLeft, Tells};
 ghost use Rattle.store_upkeep.specs.Compaction.{shown};
+ghost use Rattle.store_expiry.specs.Causes.{IsDamagedFile, IsExpireCause};
 ghost use Rattle.store_expiry.specs.Surveys.{IsSurveyed, IsSurveyedAt};
 
 use crate::expired::Expired;
+use crate::fault::ExpireFault;
 use crate::tally::Tally;
 use archive_streams::ArchiveEntries;
 use disk::FileName;
@@ -17,7 +20,7 @@ use std::alloc::Global;
 use store_reading::{
     CheckFault, FileFault, HEX_LEN, Period, check_digest, hash_entry, hexadecimal,
 };
-use store_upkeep::{CompactFault, StreamDisk, check_fault, open_file};
+use store_upkeep::{StreamDisk, check_fault, open_file};
 
 /// What a segment has: its records, how many octets they take, and their SHA-256 in lower-case
 /// hexadecimal.
@@ -71,6 +74,23 @@ fn survey_archive<R: Input>(
     })
 }
 
+// Why a segment was not read to its end, or is damaged.
+fn survey_fault(alloc: Global, name: &FileName, fault: CheckFault) -> ExpireFault
+    ensures { (files : Files) → Tells fault (IsDamagedFile files name.now) → (n : ℕ)
+        → IsExpireCause (IsDamagedFile files) n n result }
+{
+    match fault {
+        CheckFault::Damaged(damage) => match name.copy(alloc) {
+            Ok(name) => ExpireFault::Damaged { name, damage },
+            Err(fault) => ExpireFault::from(fault),
+        },
+        CheckFault::Input(fault) => {
+            ExpireFault::Store(check_fault(alloc, name, CheckFault::Input(fault)))
+        }
+        CheckFault::Memory => ExpireFault::Store(check_fault(alloc, name, CheckFault::Memory)),
+    }
+}
+
 /// Reads a segment of a period to its end: it must be an archive whose entries are all of the period, and
 /// its name must have the SHA-256 of its octets.
 pub fn survey_segment<D: StreamDisk>(
@@ -79,20 +99,23 @@ pub fn survey_segment<D: StreamDisk>(
     expired: &Expired,
     name: &FileName,
     period: &Period,
-) -> Result<Survey, CompactFault>
+) -> Result<Survey, ExpireFault>
     ensures surveyed { IfOk result (λ s. D.tells disk.new → IsSound (D.state disk.old)
         → IsSegment period.now name.now
         → IsSurveyedAt expired.now (shown (D.state disk.old)) name.now period.now s) }
+    ensures cause { IfErr result (λ fault. D.tells disk.new → IsSound (D.state disk.old)
+        → IsSegment period.now name.now → (n : ℕ)
+        → IsExpireCause (IsDamagedFile (shown (D.state disk.old))) n n fault) }
     ensures same { D.tells disk.new → IsUnchanged (D.state disk.old) (D.state disk.new) }
     ensures told { D.tells disk.new → D.tells disk.old }
 {
     let mut file = open_file(alloc, disk, name)?;
     let found = match survey_archive(alloc, expired, period, &mut file) {
         Ok(found) => found,
-        Err(fault) => return Err(check_fault(alloc, name, fault)),
+        Err(fault) => return Err(survey_fault(alloc, name, fault)),
     };
     match check_digest(alloc, name.as_octets(), period, &found.hex) {
         Ok(()) => Ok(found),
-        Err(fault) => Err(check_fault(alloc, name, fault)),
+        Err(fault) => Err(survey_fault(alloc, name, fault)),
     }
 }

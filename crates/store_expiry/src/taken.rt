@@ -1,5 +1,5 @@
 //! Whether a file has the name of another one.
-ghost use Rattle.std.specs.Prelude.{◌≡◌, ◌⊎◌, IfOk, IsTrue, List, None, Some, ℕ, false};
+ghost use Rattle.std.specs.Prelude.{◌≡◌, IfOk, IsTrue, List, None, Some, ℕ, false};
 ghost use Rattle.disk.specs.Calls.{IsUnchanged};
 ghost use Rattle.journal.specs.Journals.{IsSound};
 ghost use Rattle.archive_text.specs.Entries.{Entry};

@@ -1,7 +1,4 @@
 //! The condition of what stays.
-ghost use Rattle.std.specs.Prelude.{◌↔◌, IsTrue};
-ghost use Rattle.archive_text.specs.Entries.{Entry};
-ghost use Rattle.archive_text.specs.EntryViews.{entry_of};
 ghost use Rattle.store_expiry.specs.Expired.{IsExpired};
 
 use crate::expired::Expired;

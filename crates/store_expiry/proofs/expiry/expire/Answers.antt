@@ -1,10 +1,14 @@
-use Rattle.std.proofs.Common.{◌∙◌, sym, subst}
+use Rattle.std.proofs.Common.{◌∙◌, refl, sym, subst}
 use Rattle.record_store.proofs.Compared.{same_then}
 use Rattle.store_upkeep.specs.Compaction.{AreListed}
 use Rattle.std.proofs.lemmas.Result.{err_from_is_err_and}
 use Rattle.store_expiry.proofs.Clearing.{all_clear, all_told}
 use Rattle.store_expiry.proofs.Shedding.{then_sheds, unchanged_sheds, unchanged_stays}
 use Rattle.store_expiry.proofs.Telling.{err_lines, part_then, writes_no_part, writes_none}
+use Rattle.store_upkeep.specs.Compaction.{shown}
+use Rattle.store_expiry.specs.Causes.{IsDamagedFile, none_damaged}
+use Rattle.store_expiry.specs.declared.fault.ExpireFault.TheVariants.{Store}
+use Rattle.store_expiry.proofs.Causing.{cause_on, none_then}
 use Rattle.store_expiry.proofs.expiry.expire.Goals as goal
 
 pub returns-in_err-names-clause-sheds : goal.returns-in_err-names-clause-sheds
@@ -86,3 +90,25 @@ returns-clause-dry g c t dry =
     same_then (g.D.Disk.state c.args.disk.now) (g.D.Disk.state c.list.new.disk)
     (g.D.Disk.state c.expire_each.new.disk) (c.list.ensures.same (c.expire_each.ensures.told t))
     (c.expire_each.ensures.dry t dry)
+
+pub returns-in_err-names-clause-cause : goal.returns-in_err-names-clause-cause
+returns-in_err-names-clause-cause g c t sound =
+    let told = IsDamagedFile (shown (g.D.Disk.state c.list.new.disk)) in
+    let n = (g.W.Output.state c.args.output.now).failures in
+    cause_on none_damaged told n n n c.from_residual.result (Store c.in_err-names.field-0.0) c.from_residual.ensures.1
+    refl (none_then told) refl
+
+pub returns-in_err-expire_each-clause-cause : goal.returns-in_err-expire_each-clause-cause
+returns-in_err-expire_each-clause-cause g c t sound =
+    let told = IsDamagedFile (shown (g.D.Disk.state c.expire_each.new.disk)) in
+    let a = (g.W.Output.state c.args.output.now).failures in
+    let same = c.list.ensures.same (c.expire_each.ensures.told t) in
+    cause_on told told a a (g.W.Output.state c.expire_each.new.output).failures
+    c.from_residual-in_err-expire_each.result c.in_err-expire_each.field-0.0
+    c.from_residual-in_err-expire_each.ensures.1 refl (λ name damage is. is)
+    (c.in_err-expire_each.ensures.cause t (same.lost ∙ sound))
+
+pub returns-clause-cause : goal.returns-clause-cause
+returns-clause-cause g c t sound =
+    let same = c.list.ensures.same (c.expire_each.ensures.told t) in
+    c.in_ok-expire_each.ensures.cause t (same.lost ∙ sound)

@@ -10,6 +10,8 @@ use Rattle.store_expiry.specs.Expiry.{IsClear}
 use Rattle.store_expiry.proofs.Shedding.{clear_still, same_sheds, then_sheds}
 use Rattle.store_expiry.specs.Lines.{WritesAll}
 use Rattle.store_expiry.proofs.Telling.{all_more, clear_is_all, err_lines, part_then}
+use Rattle.store_expiry.specs.Causes.{IsDamagedFile}
+use Rattle.store_expiry.proofs.Causing.{cause_on}
 use Rattle.store_expiry.proofs.expiry.expire_each.Goals as goal
 
 pub names-init : goal.names-init
@@ -24,6 +26,7 @@ names-init g c =
           (λ name has. absurd (no_name (λ (n : List ℕ). Unit {0}) (name, has, tt)));
       clear = λ t sound wet name has. absurd (no_name (λ (n : List ℕ). Unit {0}) (name, has, tt));
       dry = λ t dry. same_state zero;
+      failures = λ t sound. refl;
     }
 
 pub names-preserved : goal.names-preserved
@@ -60,6 +63,9 @@ names-preserved g c =
           (subst (λ (l : List (List ℕ)). Contains l name) more has);
       dry = λ t dry. same_then zero then one (c.names.invariant.dry (c.expire_file.ensures.told t) dry)
           (c.expire_file.ensures.dry t dry);
+      failures = λ t sound. let before = c.expire_file.ensures.told t in
+          c.in_ok-expire_file.ensures.cause t (c.names.invariant.sound before sound)
+          ∙ c.names.invariant.failures before sound;
     }
 
 pub returns-in_err-expire_file-clause-sheds : goal.returns-in_err-expire_file-clause-sheds
@@ -100,3 +106,12 @@ returns-clause-lines g c t sound =
     (g.D.Disk.state c.names.disk) (g.W.Output.state c.args.output.now).taken (g.W.Output.state c.names.output).taken
     (Contains l)) (take_all c.names.name-index c.args.names.now c.names-test.false)
     (c.names.invariant.lines t sound)
+
+pub returns-in_err-expire_file-clause-cause : goal.returns-in_err-expire_file-clause-cause
+returns-in_err-expire_file-clause-cause g c t sound =
+    let told = IsDamagedFile (shown (g.D.Disk.state c.expire_file.new.disk)) in
+    let before = c.expire_file.ensures.told t in
+    cause_on told told (g.W.Output.state c.args.output.now).failures (g.W.Output.state c.names.output).failures
+    (g.W.Output.state c.expire_file.new.output).failures c.from_residual.result c.in_err-expire_file.field-0.0
+    c.from_residual.ensures.1 (c.names.invariant.failures before sound) (λ name damage is. is)
+    (c.in_err-expire_file.ensures.cause t (c.names.invariant.sound before sound))

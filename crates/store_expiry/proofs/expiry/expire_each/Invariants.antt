@@ -20,4 +20,6 @@ invariant-names g l =
       clear : g.D.Disk.tells l.disk → IsSound before → l.dry_run ≡ false → (name : List ℕ)
           → Contains (take l.name-index l.names) name → IsClear l.expired (shown now) name;
       dry : g.D.Disk.tells l.disk → l.dry_run ≡ true → IsUnchanged before now;
+      failures : g.D.Disk.tells l.disk → IsSound before
+          → (g.W.Output.state l.output).failures ≡ (g.W.Output.state l.fn.output).failures;
     }

@@ -5,6 +5,8 @@ use Rattle.store_expiry.proofs.Finding.{clear_told, none_found, some_found}
 use Rattle.store_expiry.proofs.Shedding.{clear_none, then_sheds, unchanged_sheds, unchanged_stays}
 use Rattle.store_expiry.proofs.Telling.{all_then, err_lines, found_fails, found_tells, part_then, writes_no_part}
 use Rattle.store_expiry.proofs.Telling.{writes_none}
+use Rattle.store_expiry.specs.Causes.{IsDamagedFile, none_damaged}
+use Rattle.store_expiry.proofs.Causing.{cause_on, none_then}
 use Rattle.store_expiry.proofs.expiry.expire_file.Goals as goal
 
 pub returns-in_err-found-clause-sheds : goal.returns-in_err-found-clause-sheds
@@ -54,7 +56,7 @@ returns-in_err-tell-clause-lines g c t sound =
     (part_then x zero one (unchanged_sheds x zero one same) one before before after
     (writes_none x zero one before (unchanged_stays x zero one same))
     (found_fails x one one c.args.name.now c.in-Some.found (some_found _ c.in-Some.found _ c.in-Some.is (c.in_ok-found.ensures.found t sound))
-    (λ period name segment. inl refl) before after c.in_err-tell.ensures))
+    (λ period name segment. inl refl) before after c.in_err-tell.ensures.tells))
 
 pub returns-then-dry_run-clause-clear : goal.returns-then-dry_run-clause-clear
 returns-then-dry_run-clause-clear g c t sound wet =
@@ -76,7 +78,7 @@ returns-then-dry_run-clause-lines g c t sound =
     all_then x zero one (unchanged_sheds x zero one same) one before before after
     (writes_none x zero one before (unchanged_stays x zero one same)) _
     (found_tells x one one c.args.name.now c.in-Some.found (some_found _ c.in-Some.found _ c.in-Some.is (c.in_ok-found.ensures.found t sound))
-    (λ period name segment. inl refl) before after one c.in_ok-tell.ensures (λ other apart. refl))
+    (λ period name segment. inl refl) before after one c.in_ok-tell.ensures.tells (λ other apart. refl))
 
 pub returns-in_err-shed-clause-sheds : goal.returns-in_err-shed-clause-sheds
 returns-in_err-shed-clause-sheds g c t sound =
@@ -142,3 +144,26 @@ returns-clause-lines g c t sound =
 
 pub returns-clause-dry : goal.returns-clause-dry
 returns-clause-dry g c t dry = absurd (cc (c.if-dry_run.false, dry))
+
+pub returns-in_err-found-clause-cause : goal.returns-in_err-found-clause-cause
+returns-in_err-found-clause-cause g c t sound =
+    let told = IsDamagedFile (shown (g.D.Disk.state c.find.new.disk)) in
+    let n = (g.W.Output.state c.args.output.now).failures in
+    cause_on told told n n n c.from_residual.result c.in_err-found.field-0.0 c.from_residual.ensures.1 refl
+    (λ name damage is. is) (c.in_err-found.ensures.cause t sound n)
+
+pub returns-in_err-tell-clause-cause : goal.returns-in_err-tell-clause-cause
+returns-in_err-tell-clause-cause g c t sound =
+    let told = IsDamagedFile (shown (g.D.Disk.state c.find.new.disk)) in
+    let a = (g.W.Output.state c.args.output.now).failures in
+    let b = (g.W.Output.state c.tell.new.output).failures in
+    cause_on none_damaged told a a b c.from_residual-in_err-tell.result c.in_err-tell.field-0.0
+    c.from_residual-in_err-tell.ensures.1 refl (none_then told) c.in_err-tell.ensures.cause
+
+pub returns-in_err-shed-clause-cause : goal.returns-in_err-shed-clause-cause
+returns-in_err-shed-clause-cause g c t sound =
+    let told = IsDamagedFile (shown (g.D.Disk.state c.shed.new.disk)) in
+    let a = (g.W.Output.state c.args.output.now).failures in
+    let b = (g.W.Output.state c.shed.new.output).failures in
+    cause_on none_damaged told a a b c.from_residual-in_err-shed.result c.in_err-shed.field-0.0
+    c.from_residual-in_err-shed.ensures.1 refl (none_then told) c.in_err-shed.ensures.cause
