@@ -24,11 +24,11 @@ use syslog_value::Record;
 pub const RECORDS_MAX: usize = 1_099_511_627_776;
 
 // how many blocks are filled, beside an eighth of those that were left, before repeats are let go of
-const BLOCKS_FILLED: usize = 48;
+const BLOCKS_FILLED: usize = 16;
 
 /// Records as they came, made for millions of them: the canonical octets of each, in blocks of 1 MiB,
 /// and where they lie. A record takes its canonical octets and some 20 to 36 more. One that comes
-/// again does too, until some 48 MiB came and an eighth of the set. More than 2^40 records, or 2^32
+/// again does too, until some 16 MiB came and an eighth of the set. More than 2^40 records, or 2^32
 /// blocks, are answered as out of memory.
 #[derive(Debug, Drop)]
 pub struct UnsortedRecords {
