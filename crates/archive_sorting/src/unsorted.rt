@@ -159,11 +159,14 @@ impl UnsortedRecords {
             .saturating_add(BLOCKS_FILLED);
     }
 
-    /// The archive of the records: each once, in order. It takes no more memory.
+    /// The archive of the records: each once, in order. It cannot fail: memory, if there is some, saves
+    /// time alone.
     pub fn settle(self) -> SortedArchive
         ensures { HaveSame (entries_kept self) (entries_in result) }
     {
         let mut spans = self.spans;
+        // those that were sorted before are not sorted again
+        shed(&self.arena, &mut spans);
         settle(&self.arena, &mut spans);
         SortedArchive {
             arena: self.arena,
