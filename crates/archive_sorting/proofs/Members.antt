@@ -64,6 +64,9 @@ fit_same xs zs same all =
 pub same_kept : (xs ys zs : List Entry) → zs ≡ ys → HaveSame xs ys → HaveSame xs zs
 same_kept xs ys zs is same = subst (HaveSame xs) (sym is) same
 
+pub same_then : (xs ys zs : List Entry) → HaveSame xs ys → HaveSame ys zs → HaveSame xs zs
+same_then xs ys zs h k x = (λ has. (h x).0 ((k x).0 has), λ has. (k x).1 ((h x).1 has))
+
 pub same_through : (xs ys zs : List Entry) → HaveSame xs ys → HaveSame xs zs → HaveSame ys zs
 same_through xs ys zs h k x = (λ has. (h x).1 ((k x).0 has), λ has. (k x).1 ((h x).0 has))
 

@@ -24,11 +24,11 @@ use syslog_value::Record;
 pub const RECORDS_MAX: usize = 1_099_511_627_776;
 
 // how many blocks are filled, beside an eighth of those that were left, before repeats are let go of
-const BLOCKS_FILLED: usize = 48;
+const BLOCKS_FILLED: usize = 16;
 
 /// Records as they came, made for millions of them: the canonical octets of each, in blocks of 1 MiB,
 /// and where they lie. A record takes its canonical octets and some 20 to 36 more. One that comes
-/// again does too, until some 48 MiB came and an eighth of the set. More than 2^40 records, or 2^32
+/// again does too, until some 16 MiB came and an eighth of the set. More than 2^40 records, or 2^32
 /// blocks, are answered as out of memory.
 #[derive(Debug, Drop)]
 pub struct UnsortedRecords {
@@ -159,11 +159,14 @@ impl UnsortedRecords {
             .saturating_add(BLOCKS_FILLED);
     }
 
-    /// The archive of the records: each once, in order. It takes no more memory.
+    /// The archive of the records: each once, in order. It cannot fail: memory, if there is some, saves
+    /// time alone.
     pub fn settle(self) -> SortedArchive
         ensures { HaveSame (entries_kept self) (entries_in result) }
     {
         let mut spans = self.spans;
+        // those that were sorted before are not sorted again
+        shed(&self.arena, &mut spans);
         settle(&self.arena, &mut spans);
         SortedArchive {
             arena: self.arena,
