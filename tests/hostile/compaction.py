@@ -139,7 +139,7 @@ def is_locked(program, results, path, files):
     with open(store / "lock.compact", "wb") as lock:
         fcntl.flock(lock, fcntl.LOCK_EX)
         answer = program.run(["compact", str(store)])
-        results.same("a second compaction", answer, (2, b"", b"lock.compact: the store is being compacted\n"))
+        results.same("a second compaction", answer, (2, b"", b"lock.compact: another process compacts or expires the store\n"))
         results.check("it changes nothing", {**files, b"lock.compact": b""} == files_of(store))
     (store / "lock.compact").unlink()
     (store / "lock.compact").mkdir()

@@ -13,15 +13,17 @@ use std::alloc::Global;
 /// beside a server or not: whenever 64 MiB of it were read, and at its end, those become segments, as
 /// at a checkpoint, under the draft `add.archive`. Nobody else may add to the folder meanwhile. Once it
 /// has returned `Ok`, segments hold every record of the archive, whatever a crash leaves. A crash at
-/// any moment leaves what the folder held, and of the archive a prefix. It can say so only if no sync
-/// has failed since the machine was started.
+/// any moment leaves what the folder held, the pieces of the archive that were written, and of the next
+/// piece the records of some segments. It can say so only if no sync has failed since the machine was
+/// started.
 ///
 /// It takes room in memory for a piece of 64 MiB and one entry, in pages, and for two entries and
 /// `ENTRIES_READ_MAX` octets of the input.
 ///
 /// # Errors
-/// The first fault that is met, and how much of the archive is on the disk. Where the input is no
-/// archive, fails or has no end, all entries before that are.
+/// The first fault that is met, or that of the disk where what was read before is written, and how much
+/// of the archive is on the disk. Where the input is no archive, fails or has no end, all entries before
+/// that are.
 pub fn add_archive<D: Disk, R: Input>(
     alloc: Global,
     disk: &mut D,

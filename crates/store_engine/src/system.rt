@@ -4,7 +4,7 @@ ghost use Rattle.store_engine.specs.Systems.{last_error_of};
 
 use crate::lines::NoStore;
 use disk::{DiskFault, FileName};
-use folder_disk::{Access, FileError, FolderPath, open_regular};
+use folder_disk::{Access, FileError, FolderPath, LockFile, open_regular};
 use octet_devices::FromRead;
 use std::alloc::Global;
 use std::fs;
@@ -50,9 +50,13 @@ fn opening_fault(kind: ErrorKind) -> DiskFault
     }
 }
 
-// Whether a file has the name of a journal or of a segment.
+// Whether a file has the name of a journal, of a segment, or of the lock of an addition, which may have
+// made the folder and had nothing to add.
 fn is_of_store(name: &FileName) -> bool {
-    is_journal(name.as_octets()) || segment_period(name.as_octets()).is_some()
+    let name = name.as_octets();
+    is_journal(name)
+        || segment_period(name).is_some()
+        || name == LockFile::Addition.name().as_bytes()
 }
 
 // What it means where the names were to be read.
@@ -79,7 +83,8 @@ impl<R: Files + AllocGlobal + Clone + Drop> SystemFolder<R> {
         })
     }
 
-    /// A store: a folder that exists and may be read, in which there is a journal or a segment.
+    /// A store: a folder that exists and may be read, in which there is a journal or a segment, or the lock
+    /// of an addition.
     ///
     /// # Errors
     /// That of the system if it cannot be opened so, or lack of memory; or that it is no store.

@@ -5,7 +5,9 @@ ghost use Rattle.folder_disk.specs.Folders.{last_error_of, untold};
 use crate::lines::NoStore;
 use crate::system::{SystemFolder, Uninterrupted};
 use disk::{Disk, DiskFault, FileName};
-use folder_disk::{FileError, FolderDisk, FolderFault, FolderPath, create_regular, remove_regular};
+use folder_disk::{
+    FileError, FolderDisk, FolderFault, FolderLock, FolderPath, create_regular, remove_regular,
+};
 use octet_devices::{FromRead, ToWrite};
 use std::alloc::Global;
 use std::fs::OpenFile;
@@ -108,6 +110,12 @@ where
             return Some(error);
         }
         self.disk.last_error()
+    }
+
+    /// Keeps a lock on the folder. Before each change the disk sees whether the lock still has its name,
+    /// and the folder is the one that was opened.
+    pub fn hold(&mut self, lock: FolderLock) {
+        self.disk.hold(lock);
     }
 
     // The fault, where the system told this error of a file that is written. It is kept.

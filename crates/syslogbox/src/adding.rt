@@ -33,10 +33,10 @@ pub fn add<N: Output>(rt: &HostRuntime, alloc: Global, dir: &str, diagnostics: &
         Err(fault) => return report_folder_fault(alloc, dir, fault, diagnostics),
     };
     let lock = LockFile::Addition;
-    let _lock = match FolderLock::take(rt, dir, lock) {
-        Ok(taken) => taken,
+    match FolderLock::take(rt, dir, lock) {
+        Ok(taken) => disk.hold(taken),
         Err(fault) => return report_lock_fault(alloc, lock, fault, diagnostics),
-    };
+    }
     let mut input = FromRead::new(rt.stdin());
     let status = add_to_store(alloc, &mut disk, &mut input, diagnostics);
     match disk.last_error() {

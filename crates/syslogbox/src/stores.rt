@@ -15,7 +15,7 @@ use store_engine::{
     report_read_fault, verify_store,
 };
 use store_expiry::{ExpireFault, Expired};
-use store_reading::ReadFault;
+use store_reading::{FileFault, ReadFault};
 use store_upkeep::{CompactFault, DamagedFile};
 use syslog_value::Instant;
 
@@ -134,7 +134,7 @@ pub fn report_lock_fault<N: Output>(
 ) -> u8 {
     let what = lock.name();
     let held = match lock {
-        LockFile::Compaction => "the store is being compacted",
+        LockFile::Compaction => "another process compacts or expires the store",
         LockFile::Writing | LockFile::Addition => "another process adds to the store",
     };
     match fault {
@@ -146,30 +146,31 @@ pub fn report_lock_fault<N: Output>(
     }
 }
 
-// Takes the lock of whoever joins or removes segments, or reports why it is not taken, and gives the exit
-// status.
-fn lock_segments<N: Output>(
+// Opens a store whose segments are joined or removed, and locks it against others who do; or reports why
+// that is not done, and gives the exit status.
+fn open_locked<N: Output>(
     rt: &HostRuntime,
     alloc: Global,
     dir: &str,
     diagnostics: &mut N,
-) -> Result<FolderLock, u8> {
+) -> Result<SystemDisk<HostRuntime>, u8> {
+    let mut disk = match SystemDisk::open(rt, dir) {
+        Ok(disk) => disk,
+        Err(error) => return Err(report_no_store(alloc, dir, &error, diagnostics)),
+    };
     let lock = LockFile::Compaction;
     match FolderLock::take(rt, dir, lock) {
-        Ok(taken) => Ok(taken),
-        Err(fault) => Err(report_lock_fault(alloc, lock, fault, diagnostics)),
+        Ok(taken) => disk.hold(taken),
+        Err(fault) => return Err(report_lock_fault(alloc, lock, fault, diagnostics)),
     }
+    Ok(disk)
 }
 
 /// Joins the segments of each day of a store that has more than eight. Returns the exit status: 0 where
 /// each day has at most eight then, 1 where a segment is damaged.
 pub fn compact<N: Output>(rt: &HostRuntime, alloc: Global, dir: &str, diagnostics: &mut N) -> u8 {
-    let mut disk = match SystemDisk::open(rt, dir) {
+    let mut disk = match open_locked(rt, alloc, dir, diagnostics) {
         Ok(disk) => disk,
-        Err(error) => return report_no_store(alloc, dir, &error, diagnostics),
-    };
-    let _lock = match lock_segments(rt, alloc, dir, diagnostics) {
-        Ok(lock) => lock,
         Err(status) => return status,
     };
     match store_upkeep::compact(alloc, &mut disk) {
@@ -186,6 +187,27 @@ fn time_of(rt: &HostRuntime, bound: ExpireBound) -> Option<Instant> {
     }
 }
 
+// Reports why what is old was not all removed, and returns the exit status.
+fn report_expire_fault<N: Output>(
+    alloc: Global,
+    disk: &SystemDisk<HostRuntime>,
+    dir: &str,
+    fault: ExpireFault,
+    diagnostics: &mut N,
+) -> u8 {
+    match fault {
+        ExpireFault::Damaged { name, damage } => {
+            report_damaged_file(alloc, &DamagedFile { name, damage }, diagnostics)
+        }
+        ExpireFault::Taken { name } => {
+            let damage = FileFault::Digest;
+            report_damaged_file(alloc, &DamagedFile { name, damage }, diagnostics)
+        }
+        ExpireFault::Store(fault) => report_change_fault(alloc, disk, dir, fault, diagnostics),
+        ExpireFault::Output => report(diagnostics, b"write fault\n", FAULT),
+    }
+}
+
 /// Removes old records of a store, and writes a line for each file that goes. Returns the exit status: 0
 /// where no segment has an old record then, 1 where one is damaged.
 pub fn expire<W: Output, N: Output>(
@@ -199,28 +221,17 @@ pub fn expire<W: Output, N: Output>(
     let Some(time) = time_of(rt, words.bound) else {
         return report(
             diagnostics,
-            b"the system's clock is not within the years 0 to 9999\n",
+            b"the system's clock does not tell the time\n",
             FAULT,
         );
     };
     let expired = Expired::before(time, words.undated);
-    let mut disk = match SystemDisk::open(rt, dir) {
+    let mut disk = match open_locked(rt, alloc, dir, diagnostics) {
         Ok(disk) => disk,
-        Err(error) => return report_no_store(alloc, dir, &error, diagnostics),
-    };
-    let _lock = if words.dry_run {
-        None
-    } else {
-        match lock_segments(rt, alloc, dir, diagnostics) {
-            Ok(lock) => Some(lock),
-            Err(status) => return status,
-        }
+        Err(status) => return status,
     };
     match store_expiry::expire(alloc, &mut disk, &expired, words.dry_run, output) {
         Ok(()) => DONE,
-        Err(ExpireFault::Output) => report(diagnostics, b"write fault\n", FAULT),
-        Err(ExpireFault::Store(fault)) => {
-            report_change_fault(alloc, &disk, dir, fault, diagnostics)
-        }
+        Err(fault) => report_expire_fault(alloc, &disk, dir, fault, diagnostics),
     }
 }
