@@ -1,21 +1,21 @@
 //! `add`: the records of an archive, into a store.
 ghost use Rattle.std.specs.Prelude.{◌≡◌, ◌++◌, IfOk, codes, decimal};
 ghost use Rattle.driver.specs.Devices.{Reports};
-ghost use Rattle.set_engine.specs.Ended.{Tells, TellsLine};
+ghost use Rattle.set_engine.specs.Ended.{Tells};
 ghost use Rattle.store_engine.specs.Adding.{IsAddedLine, RanAdd, TellsAdded, TellsInterrupted, add_telling};
-ghost use Rattle.store_engine.specs.Lines.{digest_line};
 ghost use Rattle.store_engine.specs.Reading.{disk_line, disk_status};
 
-use crate::lines::{report_line, words_on};
+use crate::read::report_damage;
 use archive_engine::report_archive_fault;
 use archive_streams::{EntriesFault, InputFault};
-use disk::{Disk, DiskFault, FileName};
+use disk::{Disk, DiskFault};
 use driver::{DONE, FAULT, NO_MEMORY, REFUSED, report};
 use itoa::Buffer;
 use octet_devices::{Input, Output};
 use record_store::KeepFault;
 use std::alloc::{AllocError, Global};
 use store_addition::{AddFault, Addition, Interrupted, add_archive};
+use store_reading::FileFault;
 use syslog_grammar::canonical_timestamp;
 
 // The line on so many entries, up to this time.
@@ -76,18 +76,6 @@ fn report_store_fault<N: Output>(fault: DiskFault, diagnostics: &mut N) -> u8
     }
 }
 
-// Reports that the segment of this name has other octets than the name says.
-fn report_other_octets<N: Output>(alloc: Global, name: &FileName, diagnostics: &mut N) -> u8
-    ensures { TellsLine (digest_line name.now) REFUSED (N.state diagnostics.old)
-        (N.state diagnostics.new) result }
-{
-    report_line(
-        words_on(alloc, name.as_octets(), b" digest\n"),
-        REFUSED,
-        diagnostics,
-    )
-}
-
 // Reports why an archive was not added whole.
 fn report_add_fault<N: Output>(alloc: Global, fault: &AddFault, diagnostics: &mut N) -> u8
     ensures { Tells add_telling fault.now (N.state diagnostics.old) (N.state diagnostics.new) result }
@@ -100,7 +88,7 @@ fn report_add_fault<N: Output>(alloc: Global, fault: &AddFault, diagnostics: &mu
         AddFault::Segment(KeepFault::Disk(fault)) => report_store_fault(*fault, diagnostics),
         AddFault::Segment(KeepFault::Day) => report(diagnostics, b"store fault\n", FAULT),
         AddFault::Segment(KeepFault::Differs { name }) => {
-            report_other_octets(alloc, name, diagnostics)
+            report_damage(alloc, name, FileFault::Digest, diagnostics)
         }
         AddFault::Memory => report(diagnostics, b"want of memory\n", NO_MEMORY),
     }

@@ -14,8 +14,8 @@ use octet_devices::Output;
 use std::alloc::Global;
 use store_reading::{FileFault, Folder, ReadFault, read};
 
-// Reports what is wrong with a file.
-fn report_damage<N: Output>(
+/// Reports what is wrong with a file.
+pub(crate) fn report_damage<N: Output>(
     alloc: Global,
     name: &FileName,
     fault: FileFault,
