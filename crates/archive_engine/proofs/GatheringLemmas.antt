@@ -88,7 +88,8 @@ no_entry way n f line (inr (inl (le, offset, stops, e))) x (few, (r, is, entry))
 no_entry way n f line (inr (inr (le, form, fault, bad, e))) x (few, (r, is, entry)) =
     fault_not_read way f r fault form bad is
 
-pub gathered_refused : {S : Type 0} (H : S → List Entry → Type 0) (way : FrameReading) (s : S) (frames : List (List ℕ)) (n : ℕ) (f : List ℕ) (line : Line)
+pub gathered_refused : {S : Type 0} (H : S → List Entry → Type 0) (way : FrameReading) (s : S)
+    (frames : List (List ℕ)) (n : ℕ) (f : List ℕ) (line : Line)
     → IsRefusedWith way n f line
     → Gathered H way s frames → Gathered H way s (frames ++ f ∷ [])
 gathered_refused H way s frames n f line refused g =

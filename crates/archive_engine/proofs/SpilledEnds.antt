@@ -92,7 +92,8 @@ three i o n = record { input = i; output = o; diagnostics = n }
 abbrev status_of_bool : Bool → ℕ
 status_of_bool b = if b then 1 else 0
 
-finished_ok : {P R : Type 0} (tells : P → Type 0) (state : R → InputState) (first now : Gathering (SpilledArchive P R) SpillFault)
+finished_ok : {P R : Type 0} (tells : P → Type 0) (state : R → InputState)
+    (first now : Gathering (SpilledArchive P R) SpillFault)
     (kind : Framing) (i j : InputState) (o p n m : OutputState) (refused : Bool) (status : ℕ)
     → GathersInput first.reading (GathersFrom (Holds tells state) first now) kind i j n m (Ok refused)
     → Finished tells state now.set o p refused (Ok status)
@@ -121,7 +122,8 @@ finished_ok tells state first now kind i j o p n m refused status gathers f =
 abbrev TookPrefix : OutputState → OutputState → List ℕ → Type 0
 TookPrefix o p text = (n : ℕ) × Appends o.taken p.taken (take n text)
 
-finished_part : {P R : Type 0} (tells : P → Type 0) (state : R → InputState) (first now : Gathering (SpilledArchive P R) SpillFault)
+finished_part : {P R : Type 0} (tells : P → Type 0) (state : R → InputState)
+    (first now : Gathering (SpilledArchive P R) SpillFault)
     (kind : Framing) (i j : InputState) (o p n m : OutputState) (refused : Bool) (stop : SpillStop)
     (W : OutputState → OutputState → List ℕ → Type 0)
     → GathersInput first.reading (GathersFrom (Holds tells state) first now) kind i j n m (Ok refused)
@@ -146,7 +148,8 @@ finished_part tells state first now kind i j o p n m refused stop W gathers writ
       few = gathers.few;
     }
 
-pub finished : {P R : Type 0} (tells : P → Type 0) (state : R → InputState) (first now : Gathering (SpilledArchive P R) SpillFault)
+pub finished : {P R : Type 0} (tells : P → Type 0) (state : R → InputState)
+    (first now : Gathering (SpilledArchive P R) SpillFault)
     (kind : Framing) (i j : InputState) (o p n m : OutputState) (refused : Bool) (r : Result ℕ SpillStop)
     → GathersInput first.reading (GathersFrom (Holds tells state) first now) kind i j n m (Ok refused)
     → Finished tells state now.set o p refused r
@@ -463,7 +466,8 @@ ran_plain told way framing old new status r =
 
 -- ---- by another name of the same
 
-pub pumped_at : {P R : Type 0} (tells : P → Type 0) (state : R → InputState) (first : Gathering (SpilledArchive P R) SpillFault)
+pub pumped_at : {P R : Type 0} (tells : P → Type 0) (state : R → InputState)
+    (first : Gathering (SpilledArchive P R) SpillFault)
     (way : FrameReading) (set : SpilledArchive P R) (framing : InputFraming) (old new : Devices) (r : Result ℕ SpillStop)
     → first.reading ≡ way → first.set ≡ set
     → PumpedSpilled (Holds tells state first.set []) first.reading framing old new r

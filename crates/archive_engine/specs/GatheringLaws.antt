@@ -9,7 +9,8 @@ use Rattle.syslog_collect.specs.Frames.{IsEntryOfFrame}
 use Rattle.syslog_collect.proofs.Gains.{spelled_before, spelled_either}
 use Rattle.archive_engine.specs.Gathering.{Gathered}
 
-pub gathered_none : {S : Type 0} (H : S → List Entry → Type 0) (way : FrameReading) (s : S) → H s [] → Gathered H way s []
+pub gathered_none : {S : Type 0} (H : S → List Entry → Type 0) (way : FrameReading) (s : S) → H s []
+    → Gathered H way s []
 gathered_none H way s h = record {
   entries = [];
   archive = archive_nil ENTRY_MAX;
@@ -18,7 +19,8 @@ gathered_none H way s h = record {
 }
 
 -- a frame that is read as no record
-pub gathered_less : {S : Type 0} (H : S → List Entry → Type 0) (way : FrameReading) (s : S) (frames : List (List ℕ)) (f : List ℕ) → ((x : Entry) → ¬ (IsEntryOfFrame way f x))
+pub gathered_less : {S : Type 0} (H : S → List Entry → Type 0) (way : FrameReading) (s : S)
+    (frames : List (List ℕ)) (f : List ℕ) → ((x : Entry) → ¬ (IsEntryOfFrame way f x))
     → Gathered H way s frames → Gathered H way s (frames ++ f ∷ [])
 gathered_less H way s frames f none g = record {
   entries = g.entries;
@@ -34,7 +36,8 @@ gathered_less H way s frames f none g = record {
   );
 }
 
-pub gathered_long : {S : Type 0} (H : S → List Entry → Type 0) (way : FrameReading) (s : S) (frames : List (List ℕ)) (f : List ℕ) → FRAME_MAX < length f
+pub gathered_long : {S : Type 0} (H : S → List Entry → Type 0) (way : FrameReading) (s : S)
+    (frames : List (List ℕ)) (f : List ℕ) → FRAME_MAX < length f
     → Gathered H way s frames → Gathered H way s (frames ++ f ∷ [])
 gathered_long H way s frames f long g =
     gathered_less H way s frames f (λ x is. omega (arith, is.0, long)) g

@@ -1,6 +1,7 @@
 //! A stream whose records are added to a set.
 
-ghost use Rattle.std.specs.Prelude.{◌≡◌, ◌≤◌, ◌<◌, ◌+◌, ◌^◌, ◌++◌, ℕ, List, [], IfOk, MatchResult, OnErr, length};
+ghost use Rattle.std.specs.Prelude.{◌≡◌, ◌≤◌, ◌<◌, ◌+◌, ◌^◌, ◌++◌, ℕ, List, [], length};
+ghost use Rattle.std.specs.Prelude.{IfOk, MatchResult, OnErr};
 ghost use Rattle.syslog_frame.specs.Scan.{IsReading};
 ghost use Rattle.syslog_frame.specs.declared.framing.Framing.{Framing};
 ghost use Rattle.syslog_frame.specs.declared.limits.TheConstants.{POSITION_MAX};

@@ -25,7 +25,8 @@ use Rattle.archive_sorting.specs.declared.arena.Span.{Span}
 use Rattle.archive_sorting.proofs.Blocks.{entries_stay}
 
 pub span_cmp_total : (blocks : List (List ℕ)) → IsTotalOrder (span_cmp blocks)
-span_cmp_total blocks = then_total (on_total (λ (s : Span). s.rank) nat_cmp_total) (on_total (octets_at blocks) nat_list_cmp_total)
+span_cmp_total blocks = then_total (on_total (λ (s : Span). s.rank) nat_cmp_total)
+    (on_total (octets_at blocks) nat_list_cmp_total)
 
 -- ---- what a comparison says
 

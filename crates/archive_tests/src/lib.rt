@@ -13,6 +13,8 @@ mod migrations;
 #[cfg(test)]
 mod refusals;
 #[cfg(test)]
+mod sorting;
+#[cfg(test)]
 mod spilled;
 #[cfg(test)]
 mod support;

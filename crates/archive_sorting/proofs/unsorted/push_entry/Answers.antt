@@ -35,7 +35,8 @@ pub returns-clause-ok : goal.returns-clause-ok
 returns-clause-ok c =
     ap (entries_at (blocks_of c.push.new.self)) c.in_ok-push.ensures.items
     ∙ entries_pushed _ _ _ _ _ c.push.ensures.keeps c.requires.within (c.in_ok-span.ensures.value
-    ∙ same_entry (ranked c.rank_of.result c.args.entry.now.octets.now) (entry_of c.args.entry.now) c.rank_of.ensures refl)
+    ∙ same_entry (ranked c.rank_of.result c.args.entry.now.octets.now) (entry_of c.args.entry.now)
+    c.rank_of.ensures refl)
 
 pub returns-in_err-span-clause-fit : goal.returns-in_err-span-clause-fit
 returns-in_err-span-clause-fit c =
@@ -51,5 +52,6 @@ pub returns-clause-fit : goal.returns-clause-fit
 returns-clause-fit c =
     fit_pushed _ _ _ (ap (entries_at (blocks_of c.push.new.self)) c.in_ok-push.ensures.items
     ∙ entries_pushed _ _ _ _ _ c.push.ensures.keeps c.requires.within (c.in_ok-span.ensures.value
-    ∙ same_entry (ranked c.rank_of.result c.args.entry.now.octets.now) (entry_of c.args.entry.now) c.rank_of.ensures refl)) c.requires.fit
+    ∙ same_entry (ranked c.rank_of.result c.args.entry.now.octets.now) (entry_of c.args.entry.now)
+    c.rank_of.ensures refl)) c.requires.fit
     c.requires.entry

@@ -21,7 +21,8 @@ returns-clause-ok c =
     c.clear.ensures.items c.deref.ensures.value in
     on_ok_weaker c.add_entry.result
     (λ is. λ b seen es same. shown_more _ _ b _ (entries_kept c.shed.new.self) _ es shown c.instant.ensures seen is
-    (same_through (entries_kept c.args.self.now) (entries_kept c.shed.new.self) es c.shed.ensures same)) c.add_entry.ensures.ok
+    (same_through (entries_kept c.args.self.now) (entries_kept c.shed.new.self) es c.shed.ensures same))
+    c.add_entry.ensures.ok
 
 pub returns-clause-err : goal.returns-clause-err
 returns-clause-err c =
