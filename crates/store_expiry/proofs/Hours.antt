@@ -1,12 +1,12 @@
 -- Hours.
-use Rattle.std.proofs.Common.{◌≡◌, ℕ, ◌+◌, ◌-◌, ◌*◌, ◌/◌, ◌%◌, ◌<◌, refl, subst, ◌∙◌, arith, inl, inr}
+use Rattle.std.proofs.Common.{◌≡◌, ℕ, ◌+◌, ◌-◌, ◌*◌, ◌/◌, ◌%◌, ◌<◌, refl, subst, ◌∙◌, arith, inr}
 use Rattle.std.proofs.Common.{ℤ, pos, negsuc, neg_ℤ, ◌+ℤ◌, ◌-ℤ◌, ◌<ℤ◌, ◌≤ℤ◌}
 use Rattle.std.specs.Prelude.{◌↔◌, Bool, Option, None, Some}
 use Rattle.std.specs.Int.{int_rem_euclid}
 use Rattle.std.proofs.lemmas.Int.{int_rem_euclid_is, ints}
 use Rattle.jiff_core.proofs.SignedLemmas.{signed_arith}
 use Rattle.archive_sets.specs.Conditions.{IsInRange}
-use Rattle.store_expiry.specs.Expired.{IsBeforeHour, IsHourOf}
+use Rattle.store_expiry.specs.Expired.{IsBefore, IsBeforeHour, IsHourOf}
 
 -- ---- the hour of an instant
 
@@ -46,12 +46,15 @@ same_hour t a b h k =
     omega (arith, signed_arith, h.whole, h.begun, h.lasts, k.whole, k.begun, k.lasts)
 
 pub before_hour : (time hour : ℤ) (undated : Bool) (i : Option ℤ) → IsHourOf time hour
-    → IsInRange None (Some hour) undated i ↔ IsBeforeHour time undated i
-before_hour time hour undated None h = (
-  λ inside. elim inside [ inl bounds ↦ absurd (cc bounds.1) | inr is ↦ is ],
-  λ is. inr is,
-)
+    → IsBefore hour undated i ↔ IsBeforeHour time undated i
+before_hour time hour undated None h = (λ is. is, λ is. is)
 before_hour time hour undated (Some i) h = (
-  λ inside. (hour, h, inside.1),
-  λ before. (tt, subst (λ (z : ℤ). i <ℤ z) (same_hour time before.0 hour before.1 h) before.2),
+  λ before. (hour, h, before),
+  λ before. subst (λ (z : ℤ). i <ℤ z) (same_hour time before.0 hour before.1 h) before.2,
 )
+
+-- what is before an instant is in the range of what is
+pub before_in_range : (before : ℤ) (undated : Bool) (i : Option ℤ) → IsBefore before undated i
+    → IsInRange None (Some before) undated i
+before_in_range before undated None is = inr is
+before_in_range before undated (Some i) is = (tt, is)

@@ -1,7 +1,6 @@
 -- What is expired.
 use Rattle.std.specs.Prelude.{◌≡◌, ℤ, pos, ◌+ℤ◌, ◌*ℤ◌, ◌<ℤ◌, ◌≤ℤ◌, Bool, true, Option, None, Some}
 use Rattle.archive_text.specs.Entries.{Entry}
-use Rattle.archive_join.specs.Ranges.{IsOfRange}
 use Rattle.store_expiry.specs.declared.expired.Expired.{Expired}
 
 -- an instant lies in the hour that begins at another one, a whole number of hours from 1970-01-01T00:00:00Z
@@ -16,6 +15,11 @@ abbrev pub IsBeforeHour : ℤ → Bool → Option ℤ → Type 0
 IsBeforeHour time undated None = undated ≡ true
 IsBeforeHour time undated (Some i) = (hour : ℤ) × IsHourOf time hour × (i <ℤ hour)
 
+-- an instant is before another one; none is where that is said
+abbrev pub IsBefore : ℤ → Bool → Option ℤ → Type 0
+IsBefore before undated None = undated ≡ true
+IsBefore before undated (Some i) = i <ℤ before
+
 -- the record of an entry is expired
 abbrev pub IsExpired : Expired → Entry → Type 0
-IsExpired x e = IsOfRange x.range e
+IsExpired x e = IsBefore x.before x.undated e.instant

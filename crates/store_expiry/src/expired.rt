@@ -6,7 +6,7 @@ ghost use Rattle.record_store.specs.Holdings.{IsOfPeriod};
 ghost use Rattle.record_store.specs.Names.{IsSegment};
 ghost use Rattle.store_expiry.specs.Expired.{IsBeforeHour, IsExpired, IsHourOf};
 
-use archive_sets::{Condition, InRange};
+use archive_sets::InRange;
 use archive_text::EntryView;
 use store_reading::{is_outside, segment_day};
 use syslog_value::Instant;
@@ -25,11 +25,14 @@ pub fn hour_of(instant: Instant) -> Instant
     }
 }
 
-/// Which records of a store are expired: those from before an hour, and those without a time where that is
-/// said.
+/// Which records of a store are expired: those from before an instant, and those without a time where that
+/// is said.
 #[derive(Clone, Copy, Debug, PartialEq, Eq)]
 pub struct Expired {
-    range: InRange,
+    /// The first instant that is not expired.
+    pub before: Instant,
+    /// Whether records without a time are expired.
+    pub undated: bool,
 }
 
 impl Expired {
@@ -38,11 +41,8 @@ impl Expired {
         ensures { (e : Entry) → IsExpired result e ↔ IsBeforeHour time undated e.instant }
     {
         Expired {
-            range: InRange {
-                from: None,
-                to: Some(hour_of(time)),
-                undated,
-            },
+            before: hour_of(time),
+            undated,
         }
     }
 
@@ -50,7 +50,10 @@ impl Expired {
     pub fn has(&self, entry: &EntryView<'_>) -> bool
         ensures { IsTrue result ↔ IsExpired self.now (entry_of entry.now) }
     {
-        self.range.holds(entry)
+        match entry.instant {
+            None => self.undated,
+            Some(instant) => instant.micros() < self.before.micros(),
+        }
     }
 
     // Whether no record of a segment with this name is expired, by the day in its name.
@@ -60,7 +63,14 @@ impl Expired {
     {
         match segment_day(name) {
             None => false,
-            Some(day) => is_outside(&self.range, &day),
+            Some(day) => {
+                let range = InRange {
+                    from: None,
+                    to: Some(self.before),
+                    undated: self.undated,
+                };
+                is_outside(&range, &day)
+            }
         }
     }
 }

@@ -140,22 +140,22 @@ fn expire_each<D: StreamDisk, W: Output>(
 pub fn expire<D: StreamDisk, W: Output>(
     alloc: Global,
     disk: &mut D,
-    expired: &Expired,
+    expired: Expired,
     dry_run: bool,
     output: &mut W,
 ) -> Result<(), ExpireFault>
     // no segment has an expired record
     ensures clear { OnOk result (D.tells disk.new → IsSound (D.state disk.old) → dry_run ≡ false
-        → AreClear expired.now (shown (D.state disk.new))) }
+        → AreClear expired (shown (D.state disk.new))) }
 
     // whatever the result is, what is not expired is held as before, and nothing else: so at every moment
     ensures sheds { D.tells disk.new → IsSound (D.state disk.old)
-        → Sheds expired.now (D.state disk.old) (D.state disk.new) }
+        → Sheds expired (D.state disk.old) (D.state disk.new) }
 
     // whatever the result is, each segment that is gone was told; and in the end each that had an expired
     // record
     ensures lines { D.tells disk.new → IsSound (D.state disk.old)
-        → WritesLines expired.now (D.state disk.old) (D.state disk.new) (W.state output.old).taken
+        → WritesLines expired (D.state disk.old) (D.state disk.new) (W.state output.old).taken
         (W.state output.new).taken (λ (n : List ℕ). ⊤) result }
 
     // nothing is changed if that is asked for
@@ -170,6 +170,6 @@ pub fn expire<D: StreamDisk, W: Output>(
     ensures told { D.tells disk.new → D.tells disk.old }
 {
     let names = list_names(alloc, disk)?;
-    expire_each(alloc, disk, expired, dry_run, names.as_slice(), output)?;
+    expire_each(alloc, disk, &expired, dry_run, names.as_slice(), output)?;
     Ok(())
 }

@@ -1,6 +1,7 @@
 //! Folders in memory are verified and compacted.
 
 mod compacting;
+mod expiring;
 
 use crate::calls::{joined, overwrite, put};
 use crate::views::view_of;

@@ -13,12 +13,12 @@ use Rattle.store_expiry.proofs.expiry.expire.Goals as goal
 
 pub returns-in_err-names-clause-sheds : goal.returns-in_err-names-clause-sheds
 returns-in_err-names-clause-sheds g c t sound =
-    unchanged_sheds c.args.expired.now (g.D.Disk.state c.args.disk.now) (g.D.Disk.state c.list.new.disk)
+    unchanged_sheds c.args.expired (g.D.Disk.state c.args.disk.now) (g.D.Disk.state c.list.new.disk)
     (c.list.ensures.same t)
 
 pub returns-in_err-names-clause-lines : goal.returns-in_err-names-clause-lines
 returns-in_err-names-clause-lines g c t sound =
-    let x = c.args.expired.now in
+    let x = c.args.expired in
     let zero = g.D.Disk.state c.args.disk.now in
     let one = g.D.Disk.state c.list.new.disk in
     let taken = (g.W.Output.state c.args.output.now).taken in
@@ -27,7 +27,7 @@ returns-in_err-names-clause-lines g c t sound =
 
 pub returns-in_err-expire_each-clause-sheds : goal.returns-in_err-expire_each-clause-sheds
 returns-in_err-expire_each-clause-sheds g c t sound =
-    let x = c.args.expired.now in
+    let x = c.args.expired in
     let zero = g.D.Disk.state c.args.disk.now in
     let one = g.D.Disk.state c.list.new.disk in
     let same = c.list.ensures.same (c.expire_each.ensures.told t) in
@@ -36,7 +36,7 @@ returns-in_err-expire_each-clause-sheds g c t sound =
 
 pub returns-in_err-expire_each-clause-lines : goal.returns-in_err-expire_each-clause-lines
 returns-in_err-expire_each-clause-lines g c t sound =
-    let x = c.args.expired.now in
+    let x = c.args.expired in
     let zero = g.D.Disk.state c.args.disk.now in
     let one = g.D.Disk.state c.list.new.disk in
     let two = g.D.Disk.state c.expire_each.new.disk in
@@ -59,13 +59,13 @@ returns-clause-clear g c t sound wet =
     let one = g.D.Disk.state c.list.new.disk in
     let before = c.expire_each.ensures.told t in
     let now = (c.list.ensures.same before).lost ∙ sound in
-    all_clear c.args.expired.now one (g.D.Disk.state c.expire_each.new.disk) c.as_slice.result.now
+    all_clear c.args.expired one (g.D.Disk.state c.expire_each.new.disk) c.as_slice.result.now
     (subst (AreListed one) (sym c.as_slice.ensures.names) (c.in_ok-names.ensures.names before sound))
     (c.expire_each.ensures.sheds t now) (c.in_ok-expire_each.ensures.clear t now wet)
 
 pub returns-clause-sheds : goal.returns-clause-sheds
 returns-clause-sheds g c t sound =
-    let x = c.args.expired.now in
+    let x = c.args.expired in
     let zero = g.D.Disk.state c.args.disk.now in
     let one = g.D.Disk.state c.list.new.disk in
     let same = c.list.ensures.same (c.expire_each.ensures.told t) in
@@ -74,7 +74,7 @@ returns-clause-sheds g c t sound =
 
 pub returns-clause-lines : goal.returns-clause-lines
 returns-clause-lines g c t sound =
-    let x = c.args.expired.now in
+    let x = c.args.expired in
     let zero = g.D.Disk.state c.args.disk.now in
     let one = g.D.Disk.state c.list.new.disk in
     let before = (g.W.Output.state c.args.output.now).taken in
