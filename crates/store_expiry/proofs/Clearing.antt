@@ -1,5 +1,5 @@
 -- No segment has what is expired.
-use Rattle.std.proofs.Common.{◌≡◌, ◌⊎◌, inl, inr, ⊎_elim, ℕ, List, refl, ◌∙◌}
+use Rattle.std.proofs.Common.{◌≡◌, ◌⊎◌, inl, inr, ⊎_elim, ℕ, List, refl, subst, sym, ◌∙◌}
 use Rattle.std.specs.Prelude.{Contains, Option, None, Some, IsSome, ⊤}
 use Rattle.disk.specs.Calls.{IsUnchanged}
 use Rattle.disk.specs.States.{State}
@@ -38,3 +38,10 @@ all_told x old mid new same names a b listed w =
           (λ some. w.all period name segment (listed name some))
           (none_or_some (shown mid name));
     })
+
+-- names that have all of others are listed where these are
+pub listed_in_turn : (state : State) (names slice turns turn : List (List ℕ)) → slice ≡ names → turn ≡ turns
+    → ((name : List ℕ) → Contains slice name → Contains turns name) → AreListed state names → AreListed state turn
+listed_in_turn state names slice turns turn is_slice is_turn all listed name some =
+    subst (λ (l : List (List ℕ)). Contains l name) (sym is_turn)
+    (all name (subst (λ (l : List (List ℕ)). Contains l name) (sym is_slice) (listed name some)))

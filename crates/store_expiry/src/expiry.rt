@@ -14,6 +14,7 @@ use crate::fault::ExpireFault;
 use crate::line::tell;
 use crate::removal::shed;
 use crate::survey::{Found, survey_segment};
+use crate::turns::days_first;
 use disk::FileName;
 use octet_devices::Output;
 use std::alloc::Global;
@@ -128,8 +129,8 @@ fn expire_each<D: StreamDisk, W: Output>(
 /// read if the day in its name tells so. Journals stay, and names that do not count.
 ///
 /// Before a segment is removed its line is written: `PERIOD COUNT OCTETS SHA256`, what it was called after,
-/// how many records and octets it had, and its SHA-256. The lines are in the order of the names. With
-/// `dry_run` the lines are written, and nothing is changed.
+/// how many records and octets it had, and its SHA-256. Days come first, in their order, and then mixed and
+/// undated segments. With `dry_run` the lines are written, and nothing is changed.
 ///
 /// Each segment that is read is read to its end first: it must be an archive of entries of its period, and
 /// its name must have the SHA-256 of its octets. What is written is read again before it gets its name.
@@ -170,6 +171,7 @@ pub fn expire<D: StreamDisk, W: Output>(
     ensures told { D.tells disk.new → D.tells disk.old }
 {
     let names = list_names(alloc, disk)?;
-    expire_each(alloc, disk, &expired, dry_run, names.as_slice(), output)?;
+    let turns = days_first(alloc, names.as_slice())?;
+    expire_each(alloc, disk, &expired, dry_run, &turns, output)?;
     Ok(())
 }

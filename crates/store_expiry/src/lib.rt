@@ -14,6 +14,7 @@ mod rest;
 mod survey;
 mod taken;
 mod tally;
+mod turns;
 mod unexpired;
 
 pub use expired::{Expired, hour_of};

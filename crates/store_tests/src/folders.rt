@@ -257,13 +257,15 @@ fn a_lock_is_held_by_one_value(rt: HostRuntime) -> Result<(), Fail> {
     drop(created(&rt, path.as_str())?);
     let writing = taken(&rt, path.as_str(), LockFile::Writing)?;
     let compaction = taken(&rt, path.as_str(), LockFile::Compaction)?;
-    for lock in [LockFile::Writing, LockFile::Compaction] {
+    let addition = taken(&rt, path.as_str(), LockFile::Addition)?;
+    for lock in [LockFile::Writing, LockFile::Compaction, LockFile::Addition] {
         let found = taken(&rt, path.as_str(), lock);
         assert!(rt; matches!(found, Err(LockFault::Held)), "at {lock:?}");
     }
     drop(writing);
     drop(taken(&rt, path.as_str(), LockFile::Writing)?);
     drop(compaction);
+    drop(addition);
     fs::remove_dir_all(&rt, path.as_str())?;
     Ok(())
 }

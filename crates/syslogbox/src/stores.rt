@@ -230,7 +230,7 @@ pub fn expire<W: Output, N: Output>(
         Ok(disk) => disk,
         Err(status) => return status,
     };
-    match store_expiry::expire(alloc, &mut disk, &expired, words.dry_run, output) {
+    match store_expiry::expire(alloc, &mut disk, expired, words.dry_run, output) {
         Ok(()) => DONE,
         Err(fault) => report_expire_fault(alloc, &disk, dir, fault, diagnostics),
     }

@@ -89,9 +89,9 @@ fn lines(alloc: Global) -> Result<Vec<u8>, Fail> {
     let day = joined(alloc, &[BEFORE, FROM])?;
     let mixed = joined(alloc, &[UNDATED, EARLY, FROM])?;
     let lines = [
-        line(alloc, b"mixed", b"3", &mixed)?,
         line(alloc, b"2024-02-28", b"1", EARLY)?,
         line(alloc, b"2024-02-29", b"2", &day)?,
+        line(alloc, b"mixed", b"3", &mixed)?,
     ];
     joined(alloc, &[&lines[0], &lines[1], &lines[2]])
 }
@@ -217,13 +217,13 @@ fn a_damaged_segment_stays(rt: HostRuntime) -> Result<(), Fail> {
 #[test]
 fn nothing_goes_whose_line_is_not_written(rt: HostRuntime) -> Result<(), Fail> {
     let alloc = rt.alloc();
-    let mixed = joined(alloc, &[UNDATED, EARLY, FROM])?;
+    let day = joined(alloc, &[BEFORE, FROM])?;
     let mut done = run_on(alloc, stored(alloc)?, false, false, u64::MAX, 1)?;
     assert!(rt; matches!(done.answer, Err(ExpireFault::Output)));
-    assert!(rt; done.text == line(alloc, b"mixed", b"3", &mixed)?);
+    assert!(rt; done.text == line(alloc, b"2024-02-28", b"1", EARLY)?);
     let names = names_in(alloc, &mut done.disk)?;
-    assert!(rt; !is_named(&names, &segment_name(alloc, b"mixed", &mixed)?));
-    assert!(rt; is_named(&names, &segment_name(alloc, b"2024-02-28", EARLY)?));
+    assert!(rt; !is_named(&names, &segment_name(alloc, b"2024-02-28", EARLY)?));
+    assert!(rt; is_named(&names, &segment_name(alloc, b"2024-02-29", &day)?));
     Ok(())
 }
 

@@ -1,8 +1,7 @@
-use Rattle.std.proofs.Common.{◌∙◌, refl, sym, subst}
+use Rattle.std.proofs.Common.{◌∙◌, refl}
 use Rattle.record_store.proofs.Compared.{same_then}
-use Rattle.store_upkeep.specs.Compaction.{AreListed}
 use Rattle.std.proofs.lemmas.Result.{err_from_is_err_and}
-use Rattle.store_expiry.proofs.Clearing.{all_clear, all_told}
+use Rattle.store_expiry.proofs.Clearing.{all_clear, all_told, listed_in_turn}
 use Rattle.store_expiry.proofs.Shedding.{then_sheds, unchanged_sheds, unchanged_stays}
 use Rattle.store_expiry.proofs.Telling.{err_lines, part_then, writes_no_part, writes_none}
 use Rattle.store_upkeep.specs.Compaction.{shown}
@@ -23,6 +22,20 @@ returns-in_err-names-clause-lines g c t sound =
     let one = g.D.Disk.state c.list.new.disk in
     let taken = (g.W.Output.state c.args.output.now).taken in
     err_lines x zero one taken taken _ c.from_residual.result _ (err_from_is_err_and c.from_residual.result c.from_residual.ensures.1).1
+    (writes_no_part x zero one taken (unchanged_stays x zero one (c.list.ensures.same t)))
+
+pub returns-in_err-turns-clause-sheds : goal.returns-in_err-turns-clause-sheds
+returns-in_err-turns-clause-sheds g c t sound =
+    unchanged_sheds c.args.expired (g.D.Disk.state c.args.disk.now) (g.D.Disk.state c.list.new.disk)
+    (c.list.ensures.same t)
+
+pub returns-in_err-turns-clause-lines : goal.returns-in_err-turns-clause-lines
+returns-in_err-turns-clause-lines g c t sound =
+    let x = c.args.expired in
+    let zero = g.D.Disk.state c.args.disk.now in
+    let one = g.D.Disk.state c.list.new.disk in
+    let taken = (g.W.Output.state c.args.output.now).taken in
+    err_lines x zero one taken taken _ c.from_residual-in_err-turns.result _ (err_from_is_err_and c.from_residual-in_err-turns.result c.from_residual-in_err-turns.ensures.1).1
     (writes_no_part x zero one taken (unchanged_stays x zero one (c.list.ensures.same t)))
 
 pub returns-in_err-expire_each-clause-sheds : goal.returns-in_err-expire_each-clause-sheds
@@ -59,8 +72,9 @@ returns-clause-clear g c t sound wet =
     let one = g.D.Disk.state c.list.new.disk in
     let before = c.expire_each.ensures.told t in
     let now = (c.list.ensures.same before).lost ∙ sound in
-    all_clear c.args.expired one (g.D.Disk.state c.expire_each.new.disk) c.as_slice.result.now
-    (subst (AreListed one) (sym c.as_slice.ensures.names) (c.in_ok-names.ensures.names before sound))
+    all_clear c.args.expired one (g.D.Disk.state c.expire_each.new.disk) c.deref.result.now
+    (listed_in_turn one _ _ _ _ c.as_slice.ensures.names c.deref.ensures.value c.in_ok-turns.ensures
+    (c.in_ok-names.ensures.names before sound))
     (c.expire_each.ensures.sheds t now) (c.in_ok-expire_each.ensures.clear t now wet)
 
 pub returns-clause-sheds : goal.returns-clause-sheds
@@ -80,9 +94,10 @@ returns-clause-lines g c t sound =
     let before = (g.W.Output.state c.args.output.now).taken in
     let told = c.expire_each.ensures.told t in
     let same = c.list.ensures.same told in
-    all_told x zero one (g.D.Disk.state c.expire_each.new.disk) same c.as_slice.result.now before
+    all_told x zero one (g.D.Disk.state c.expire_each.new.disk) same c.deref.result.now before
     (g.W.Output.state c.expire_each.new.output).taken
-    (subst (AreListed one) (sym c.as_slice.ensures.names) (c.in_ok-names.ensures.names told sound))
+    (listed_in_turn one _ _ _ _ c.as_slice.ensures.names c.deref.ensures.value c.in_ok-turns.ensures
+    (c.in_ok-names.ensures.names told sound))
     (c.in_ok-expire_each.ensures.lines t (same.lost ∙ sound))
 
 pub returns-clause-dry : goal.returns-clause-dry
