@@ -121,7 +121,7 @@ fn usage_faults(rt: &HostRuntime, input: &[u8], rows: &[&[&str]]) -> Result<(), 
 
 #[test]
 fn other_words_are_a_usage_fault(rt: HostRuntime) -> Result<(), Fail> {
-    let rows: [&[&str]; 21] = [
+    let rows: [&[&str]; 23] = [
         &[],
         &["--help"],
         &["help"],
