@@ -33,8 +33,9 @@ def is_old(record, undated, hour=HOUR):
 
 
 def segments_of(files):
-    """The names of the segments, in their order."""
-    return sorted(name for name in files if SEGMENT.fullmatch(name))
+    """The names of the segments in the order in which they are looked at: undated ones, days, mixed ones."""
+    names = [name for name in files if SEGMENT.fullmatch(name)]
+    return sorted(names, key=lambda name: (name.startswith(b"mixed"), not name.startswith(b"undated"), name))
 
 
 def line_of(name, octets):
