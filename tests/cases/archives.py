@@ -142,13 +142,13 @@ print(resource.getrusage(resource.RUSAGE_CHILDREN).ru_maxrss)"""
 
 
 def set_alone(program, results, folder):
-    """The memory is that of the set: ten thousand repetitions of a few records take no more than one."""
+    """The memory is that of the set and some MiB, however often records are repeated."""
     def peak(times):
         with open(folder.file("stream", (EXAMPLE + b"\n" + A + b"\n") * times), "rb") as source:
             return int(subprocess.run(["python3", "-c", PEAK, program.path], stdin=source, capture_output=True, check=True).stdout)
 
-    small, large = peak(10), peak(100_000)
-    results.check("the memory of repeated records", large < small + 2_048, f"{small} and {large} KiB")
+    small, large = peak(10), peak(400_000)
+    results.check("the memory of repeated records", large < small + 49_152, f"{small} and {large} KiB")
 
 
 def archives(program, results):
