@@ -1,8 +1,8 @@
 """Adds archives to stores: each call on the disk fails or is the last of the process, and the power is cut at any call;
 beside a server, too.
 
-Whatever happens, the folder holds all that it held, and beside it a prefix of the archive and nothing else; where the
-status is 0, all of it. The power is cut on disks that are built from the calls of real runs (tests/lib/power_cut.py);
+Whatever happens, the folder holds all that it held, and beside it a prefix of the archive and nothing else (these archives
+have no day without a segment of its own, which would come last); where the status is 0, all of it. The power is cut on disks that are built from the calls of real runs (tests/lib/power_cut.py);
 logs from which a sync is missing have to be found wrong.
 """
 import errno
