@@ -11,6 +11,7 @@ from lib.server import Runs, SOON, any_port, end, refused_file, spelled, until
 BURST, A_SECOND = 100, 10
 ALL = 1_000
 NOISE = 20_000
+WRITES = 200  # at most, on standard error, for so much noise
 SLACK = 20  # lines more, for the time that a test does not see
 OTHER = "127.0.0.2"
 COUNTS = re.compile(rb"received \d+ .* refused (\d+) .* octets \d+ quiet (\d+)")
@@ -116,6 +117,18 @@ def counts(runs):
         server.end()
 
 
+def writes(runs):
+    """The lines on refused frames are joined: so much noise makes few writes on standard error."""
+    environment, made = runs.program.counting(fd=2)
+    with runs.until_eof(*any_port("lf"), *SOON, environment=environment) as server:
+        empty_frames(server, NOISE)
+        status, lines = server.end()
+        right = status == 1 and len(lines) >= BURST and len(refused_file(server.store)) == NOISE
+        runs.results.check("writes: each frame was refused", right, f"{status}, {len(lines)} lines")
+    count = made().write
+    runs.results.check("writes: lines are joined", 0 < count < WRITES, f"{count} writes for {NOISE} frames")
+
+
 def records(runs):
     """Records are told of by no line, and are no quieter for the noise of their peer."""
     sent = [b"<14>1 - h pace - - - %d" % n for n in range(300)]
@@ -126,7 +139,7 @@ def records(runs):
         server.end()
 
 
-TESTS = [one_peer, two_peers, ports_of_a_peer, connections, all_peers, counts, records]
+TESTS = [one_peer, two_peers, ports_of_a_peer, connections, all_peers, counts, writes, records]
 
 
 def notes_pace(program, results):
