@@ -1,5 +1,5 @@
-"""`serve` with noisy senders beside a good one: no datagram of the good one is lost, and each record is committed in time. And
-what a socket has of its own: room, a port, a place among the connections, a mode.
+"""`serve` with noisy senders beside a good one: no datagram of the good one is lost, each record is committed in time, and new
+connections are served in time. And what a socket has of its own: room, a port, a place among the connections, a mode.
 
 The noise comes from other addresses of the loopback, and from processes of their own, which send without waiting. When a
 record is committed is seen in the journal, whose batches are opened once they are on the disk.
@@ -27,7 +27,7 @@ from lib.program import Program
 from lib.quiet import bound
 from lib.reference import counted, counted_frames
 from lib.results import Results
-from lib.server import Runs, any_port, reset, until, until_closed
+from lib.server import Runs, any_port, end, reset, until, until_closed
 from lib.store_format import HEAD, OPEN
 
 ELSEWHERE = "127.0.0.2"
@@ -36,6 +36,7 @@ MANY = 1, 32, 1_024
 FEWER = 256  # in place of those that the limit on descriptors does not let be open
 OF_ONE = 512  # connections of a process that makes noise
 DESCRIPTORS = 64  # that a process has besides
+NEW = 25  # connections, one after the other
 SECONDS = 1.6  # of the good sender, in each run
 PACE = 0.001  # seconds from one datagram to the next
 SELDOM = 0.01  # seconds from one record of the connection to the next
@@ -254,10 +255,39 @@ def in_order(waits):
     return sorted(one for one in waits if one is not None)
 
 
+def late_beside(count):
+    """How many seconds more anything may take beside so many noisy connections."""
+    return LATE if count <= 32 else LATE_BESIDE_MANY
+
+
+def until_served(server):
+    """How long a new connection takes until the record that it sends is read, and it is closed; None if it is not."""
+    begun = time.monotonic()
+    with suppress(OSError):
+        one = server.open("counted", HERE)
+        one.settimeout(NEVER)
+        one.sendall(counted([record(b"new", 0)]))
+        return time.monotonic() - begun if end(one) else None
+    return None
+
+
+def new_connections(runs, kind, count):
+    """New connections are accepted, and served, in time beside noisy ones."""
+    words = [*any_port("counted"), *any_port("lf"), "--commit", round(1_000 * PERIOD), "--connections", 2_048]
+    with runs.server(*words) as server, Beside(server, kind, count):
+        waits = []
+        for _ in range(NEW):
+            waits.append(until_served(server))
+            time.sleep(SELDOM)
+    late = [one for one in waits if one is None or one > PERIOD + late_beside(count)]
+    runs.results.check(f"{count} of {kind}: new connections are served in time", not late,
+                       f"{len(late)} of {NEW} are late, {waits.count(None)} are never; the longest wait {in_order(waits)[-1:]}")
+
+
 def beside(runs, kind, count):
     name = f"{count} of {kind}"
     for what, waits in waits_beside(runs, kind, count, SECONDS).items():
-        most = PERIOD + (LATE if count <= 32 else LATE_BESIDE_MANY)
+        most = PERIOD + late_beside(count)
         late = [n for n, one in enumerate(waits) if one is None or one > most]
         lost = waits.count(None)
         longest = in_order(waits)[-1:]
@@ -272,6 +302,7 @@ def buffer_that_is_larger(runs):
         try:
             one.setsockopt(socket.SOL_SOCKET, 33, 33_554_432)  # SO_RCVBUFFORCE
         except PermissionError:
+            runs.results.skip("room for datagrams stays", "it takes a privilege to give a socket more room")
             return
         before = one.getsockopt(socket.SOL_SOCKET, socket.SO_RCVBUF)
         with runs.server("--inherited", "udp", hands=[one]):
@@ -385,8 +416,9 @@ def try_all(program, results):
                 results.check(f"{test.__name__}: it comes to its end", False, repr(error))
     for kind in KINDS:
         for count in may_be_open():
-            with tempfile.TemporaryDirectory() as path:
-                beside(Runs(program, results, path), kind, count)
+            for test in beside, new_connections:
+                with tempfile.TemporaryDirectory() as path:
+                    test(Runs(program, results, path), kind, count)
 
 
 def noisy_senders(program, results):
