@@ -1,6 +1,6 @@
 """The documents: their links and anchors, the files, targets, commands, calls and clauses that they name, their tours,
 their pictures, the figures and the cases of README that a test can hold, and the layout and the references of the manual's
-pages."""
+pages; and what the server's unit sets."""
 import fnmatch
 import json
 import os
@@ -185,6 +185,26 @@ def promised(results):
     results.check("the pages on proofs name calls and clauses", len(seen) > 500, str(len(seen)))
 
 
+def settings(unit):
+    """What a unit of systemd sets, the last of each name."""
+    lines = unit.read_text().replace("\\\n", " ").splitlines()
+    return dict(line.split("=", 1) for line in lines if "=" in line and not line.startswith("#"))
+
+
+def units(results):
+    """The unit of a server bounds its memory, closes connections that are silent for long, and is not started again once the disk
+    has failed."""
+    found = {unit.name: settings(unit) for unit in sorted((ROOT / "contrib").glob("*.service"))}
+    servers = {name: sets for name, sets in found.items() if " serve " in sets["ExecStart"]}
+    results.check("contrib has the unit of a server", len(servers) == 1, str(list(found)))
+    for name, sets in servers.items():
+        prevented = sets.get("RestartPreventExitStatus", "").split()
+        results.check(f"{name}: no start after status 2", "2" in prevented, str(prevented))
+        most = sets.get("MemoryMax", "")
+        results.check(f"{name}: its memory has a bound", re.fullmatch(r"\d+[KMG]?", most), most)
+        results.check(f"{name}: silent connections are closed", re.search(r" --idle \d+( |$)", sets["ExecStart"]), sets["ExecStart"])
+
+
 def laid_out(results, page):
     """groff and mandoc, if they are here, have nothing to say on a manual page."""
     for words in LINTERS:
@@ -305,6 +325,7 @@ def documents(program, results):
     named(results)
     claims(results)
     promised(results)
+    units(results)
     manual(results)
     widths(results)
     tables(results)
