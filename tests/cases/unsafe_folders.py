@@ -3,7 +3,6 @@
 No clause says what is under a name of the system. A link, a FIFO, a socket, a device or a folder in place of a file
 must neither be followed nor waited for, and is told by its name.
 """
-import hashlib
 import os
 import resource
 import shutil
@@ -16,20 +15,31 @@ from lib.faults import each_allocation, wants_memory
 from lib.program import Program
 from lib.reference import archive_text
 from lib.server import any_port, numbered, until
-from lib.store_format import files_of
+from lib.store_format import files_of, segment_name
 
 SECONDS = 5  # within which each run ends
 SENT = [numbered(n) for n in range(12)]
 BATCH, SEGMENTS = SENT[:2], [[one] for one in SENT[2:]]
 TARGET = b"\x01what nobody may change\n"
 OTHER, THIRD = 1_234, 1_235  # users
-SEGMENT, JOURNAL = f"undated.{'0' * 64}.archive", "journal.2"
+REFUSED_MAX = 64 << 20  # octets of the file of refused frames, before it is turned
+SEGMENT, OLD, JOURNAL = f"undated.{'0' * 64}.archive", f"2020-01-01.{'0' * 64}.archive", "journal.2"
+ADDED = numbered(99)
 NO_FILE, FOLDER = b"not a regular file", b"Is a directory"
+# what the commands are given behind the store's name, and on standard input
+WORDS = {"serve": [*any_port("udp"), "--until-eof"], "expire": ["--before", "2025-01-01T00:00:00Z"]}
+INPUT = {"add": archive_text([ADDED])}
 
 
 def limited():
     """In the new process: what reads a device to its end is out of memory soon."""
     resource.setrlimit(resource.RLIMIT_AS, (1 << 30, 1 << 30))
+
+
+def put_segment(store, period, records):
+    """A segment of these records."""
+    text = archive_text(records)
+    (store / segment_name(period.encode(), text).decode()).write_bytes(text)
 
 
 class Folders:
@@ -40,8 +50,7 @@ class Folders:
         self.whole = self.new()
         self.whole.mkdir()
         for records in SEGMENTS:
-            text = archive_text(records)
-            (self.whole / f"undated.{hashlib.sha256(text).hexdigest()}.archive").write_bytes(text)
+            put_segment(self.whole, "undated", records)
         self.served(self.whole, BATCH)
 
     def new(self):
@@ -54,9 +63,8 @@ class Folders:
 
     def run(self, command, store, program=None, **streams):
         """The answer of a command on a store; `serve` listens at a socket, and ends at once."""
-        words = [*any_port("udp"), "--until-eof"] if command == "serve" else []
         streams = {"timeout": SECONDS, "preexec_fn": limited, **streams}
-        return (program or self.program).run([command, str(store), *words], b"", **streams)
+        return (program or self.program).run([command, str(store), *WORDS.get(command, [])], INPUT.get(command, b""), **streams)
 
     def served(self, store, records, *words, goes_on=lambda server: False, **streams):
         """The answer of a server that was sent these records; its input ends once it need not go on."""
@@ -121,32 +129,95 @@ def seen(path):
 
 
 # which commands use which files
+COMMANDS = "serve", "read", "verify", "compact", "add", "expire"
 USED = {JOURNAL: ["serve", "read", "verify"], SEGMENT: ["read", "verify", "compact"], "lock": ["serve"],
-        "lock.compact": ["compact"], "compact.archive": ["compact"]}
+        "lock.compact": ["compact", "expire"], "compact.archive": ["compact"], "lock.add": ["add"], "add.archive": ["add"]}
+
+
+def with_intruder(folders, command, store, name, kind, make, words):
+    """Something else has the name of a file: a command tells so with these words; without words it does without the file.
+    It does not wait, and nothing is followed."""
+    results, target, nothing = folders.results, folders.path / "target", folders.path / "nothing"
+    (store / name).unlink(missing_ok=True)
+    make(store / name)
+    target.write_bytes(TARGET)
+    nothing.unlink(missing_ok=True)
+    before, answer = seen(store / name), folders.run(command, store)
+    label = f"{command} with {kind} as {name}"
+    if words:
+        folders.told(label, answer, name.encode(), words)
+    else:
+        results.check(label, answer[0] == 0, str(answer))
+    results.check(f"{label}: it stays", seen(store / name) == before)
+    results.check(f"{label}: its target", target.read_bytes() == TARGET and not nothing.exists())
 
 
 def in_place(folders):
-    """Something else has the name of a file: each command that uses the file tells so, and the others do without it.
-    None waits, and nothing is followed."""
-    results, target = folders.results, folders.path / "target"
+    """Each command that uses a file tells that something else has its name, and the others do without it."""
     for kind, (make, words) in intruders(folders).items():
         for name, commands in USED.items():
-            for command in "serve", "read", "verify", "compact":
-                store = folders.copy()
-                (store / name).unlink(missing_ok=True)
-                make(store / name)
-                target.write_bytes(TARGET)
-                (folders.path / "nothing").unlink(missing_ok=True)
-                before = seen(store / name)
-                answer = folders.run(command, store)
-                label = f"{command} with {kind} as {name}"
-                if command in commands:
-                    folders.told(label, answer, name.encode(), words)
-                else:
-                    results.check(label, answer[0] == 0, str(answer))
-                results.check(f"{label}: it stays", seen(store / name) == before)
-                same = target.read_bytes() == TARGET and not (folders.path / "nothing").exists()
-                results.check(f"{label}: its target", same)
+            for command in COMMANDS:
+                with_intruder(folders, command, folders.copy(), name, kind, make, words if command in commands else None)
+
+
+def torn(store):
+    """Octets behind the batches of the journal, which a start sets aside."""
+    with open(store / "journal.1", "ab") as journal:
+        journal.write(b"torn")
+
+
+def doubted(store):
+    """The note of a sync that failed, after which a start writes the journal anew."""
+    (store / "lock").write_bytes(b"failed \n")
+
+
+def partly_old(store):
+    """A segment of which some records are old, and which is written anew without them."""
+    put_segment(store, "mixed", [b"<14>1 %d-01-01T00:00:00.000000Z h a - - - x" % year for year in (2020, 2030)])
+
+
+def as_it_is(store):
+    """A store that is whole."""
+
+
+# names that are used only if there is a cause
+CAUSED = [("damaged.journal.1", "serve", torn), ("new.journal", "serve", doubted), ("expire.archive", "expire", partly_old),
+          (OLD, "expire", as_it_is)]
+
+
+def if_caused(folders):
+    """The same of names that a command uses only in some stores: nothing is lost."""
+    results = folders.results
+    for kind, (make, words) in intruders(folders).items():
+        for name, command, prepare in CAUSED:
+            store = folders.copy()
+            prepare(store)
+            right = files_of(store)
+            with_intruder(folders, command, store, name, kind, make, words)
+            here = files_of(store)
+            lost = [one for one, octets in right.items() if here.get(one) != octets]
+            results.check(f"{command} with {kind} as {name}: the others stay", not lost, str(lost))
+
+
+def at_a_turn(folders):
+    """Something else has a name that is needed for the turn of the file of refused frames: that goes on, or takes the name's
+    place, and nothing is followed, waited for or lost."""
+    results, target, nothing = folders.results, folders.path / "target", folders.path / "nothing"
+    for kind, (make, _) in intruders(folders).items():
+        for name in "refused.1", "refused.new":
+            store, label = folders.copy(), f"serve with {kind} as {name}"
+            with open(store / "refused", "wb") as file:  # as long as it may be, without taking room
+                file.write(b"%d " % REFUSED_MAX)
+                file.truncate(file.tell() + REFUSED_MAX)
+            before = os.stat(store / "refused")
+            make(store / name)
+            status, _, told = folders.served(store, [b"no record", *BATCH])
+            results.check(f"{label}: it goes on", status == 1, f"{status} {told}")
+            old = store / ("refused" if kind == "a folder" else "refused.1")
+            results.check(f"{label}: what was refused before", seen(old) == (before.st_ino, before.st_mode), str(seen(old)))
+            kept = (store / "refused").read_bytes()[-len(b"no record"):]
+            results.check(f"{label}: what is refused", kept == b"no record", str(kept))
+            results.check(f"{label}: its target", target.read_bytes() == TARGET and not nothing.exists())
 
 
 def locks(folders):
@@ -222,7 +293,7 @@ def others_store(folders, program):
         os.chown(one, OTHER, OTHER)
     own = {"user": OTHER, "group": OTHER, "extra_groups": [], "preexec_fn": None}
     before = listed(store)
-    for command in "serve", "compact":
+    for command in "serve", "compact", "add", "expire":
         answer = folders.run(command, store)
         line = f"{store}: it is the store of user {OTHER}; run: setpriv --reuid={OTHER} --regid={OTHER} --clear-groups"
         folders.told(f"{command} by root", answer, line.encode())
@@ -260,12 +331,13 @@ def open_folders(folders):
     for mode, status in (0o777, 2), (0o1777, 2), (0o775, 0), (0o755, 0):
         store = folders.copy()
         os.chmod(store, mode)
-        for command in "serve", "compact":
+        for command in "serve", "compact", "expire", "add":
             answer = folders.run(command, store)
             words = f"{store}: everybody may write to it\n".encode() if status else b""
             right = answer[0] == status and words in answer[2]
             folders.results.check(f"{command} of a folder of mode {mode:o}", right, str(answer))
-        folders.results.same(f"read of mode {mode:o}", folders.run("read", store), (0, archive_text(SENT), b""))
+        text = archive_text(SENT if status else [*SENT, ADDED])
+        folders.results.same(f"read of mode {mode:o}", folders.run("read", store), (0, text, b""))
     link, store = folders.new(), folders.copy()
     link.symlink_to(store)
     for command in "serve", "read", "verify", "compact":
@@ -340,7 +412,7 @@ def compacting(folders, name, whole):
 
 
 def unsafe_folders(program, results):
-    for part in in_place, locks, drafts, exchanged, open_folders, owners, memory:
+    for part in in_place, if_caused, at_a_turn, locks, drafts, exchanged, open_folders, owners, memory:
         with tempfile.TemporaryDirectory() as path:
             folders = Folders(program, results, path)
             (folders.path / "target").write_bytes(TARGET)
