@@ -1,5 +1,6 @@
 """The commands on archives as sets: tables, files that cannot be read, calls that fail, and random archives, whole and broken,
 beside the second reader."""
+import resource
 from random import Random
 
 from cases.commands import row
@@ -94,6 +95,14 @@ def tables(program, results, folder):
         row(program, results, "JSON is asked for by a flag of show", words, HELLO, 2, b"", None)
 
 
+def few_descriptors(program, results, good):
+    """Too many files for the descriptors that there are: the first that cannot be opened, and why."""
+    why = f" no file\n{good}: Too many open files (os error 24)\n".encode()
+    for most, number in (4, 2), (12, 10):  # three are open already
+        seen = program.run(["union", *[good] * 20], preexec_fn=lambda most=most: resource.setrlimit(resource.RLIMIT_NOFILE, (most, most)))
+        results.same(f"union with {most} descriptors", seen, (2, b"", b"file %d" % number + why))
+
+
 def files(program, results, folder):
     """Names without a file, folders, and devices that are full."""
     good, bad, none, folded = folder.file("good", entries(A)), folder.file("bad", b"x"), str(folder.path / "missing"), str(folder.path)
@@ -105,6 +114,7 @@ def files(program, results, folder):
     for words, notes in [([none], b"file 1 no file\n" + why), ([bad, good, none], b"file 3 no file\n" + why), ([good] * 511 + [none], b"file 512 no file\n" + why),
                          ([folded, bad], b"file 1 read fault\n"), ([good, folded, bad], b"file 2 read fault\n")]:
         results.same(f"union: {notes}", program.run(["union", *words]), (2, b"", notes))
+    few_descriptors(program, results, good)
     with open("/dev/full", "wb") as full:
         other = folder.file("other", entries(canonical(read(EXAMPLE))))
         for words, octets in [(["union", good, other], b""), (["common", good, good], b""), (["minus", good, other], b""),

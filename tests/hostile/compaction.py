@@ -10,7 +10,6 @@ import fcntl
 import os
 import resource
 import shutil
-import subprocess
 import tempfile
 from collections import Counter
 from pathlib import Path
@@ -149,15 +148,30 @@ def is_locked(program, results, path, files):
     results.check("no store", answer[0] == 2 and answer[2].startswith(f"{path}/none: No such file".encode()), str(answer))
 
 
+def few_descriptors():
+    """In the new process: there are no more descriptors than these."""
+    resource.setrlimit(resource.RLIMIT_NOFILE, (12, 12))
+
+
 def has_few_descriptors(program, results, path, files):
-    """Too few descriptors for the segments of a day: which file, and why."""
+    """Too few descriptors for the segments of a day: which file, and why. `verify` has one file open at once; if there is no
+    descriptor for that, it tells the same."""
     store = put_folder(Path(path) / "descriptors", files)
-    answer = subprocess.run([program.path, "compact", str(store)], capture_output=True, check=False,
-                            preexec_fn=lambda: resource.setrlimit(resource.RLIMIT_NOFILE, (12, 12)))
-    name, _, why = answer.stderr.partition(b": ")
-    right = answer.returncode == 2 and name in files and why.startswith(b"Too many open files")
-    results.check("too few descriptors", right, str(answer))
+
+    def told(name, answer):
+        file, _, why = answer[2].rstrip(b"\n").rpartition(b"\n")[2].rpartition(b": ")
+        right = answer[:2] == (2, b"") and file.rpartition(b"/")[2] in {*files, b"descriptors"} and why == b"Too many open files (os error 24)"
+        results.check(f"too few descriptors: {name}", right, str(answer))
+
+    for command in "compact", "read":
+        told(command, program.run([command, str(store)], preexec_fn=few_descriptors))
     results.check("too few descriptors: nothing changes", {**files, b"lock.compact": b""} == files_of(store))
+    words = ["verify", str(store)]
+    results.same("few descriptors: verify", program.run(words, preexec_fn=few_descriptors), (0, b"", b""))
+    opens = program.counts(words).open
+    results.check("verify opens its files", opens >= len(files), str(opens))
+    for n in 1, 2, opens:
+        told(f"verify, at open {n} of {opens}", program.run(words, b"", program.failing(open=n, open_error=errno.EMFILE)))
 
 
 def named(store):

@@ -3,6 +3,7 @@
 
      SHIM_MALLOC=N        the Nth call of malloc, realloc or calloc returns a null pointer
      SHIM_OPEN=N          the Nth open fails with EACCES; those of /dev/null are not counted
+     SHIM_OPEN_ERROR=E    it fails with the error E
      SHIM_NULL=N          the Nth open of /dev/null fails with EACCES
      SHIM_READ=N          the Nth read fails with EIO
      SHIM_READ_SHORT=N    the Nth read gives at most one octet
@@ -96,7 +97,7 @@ typedef int opening(const char *, int, ...);
 
 static int opened(opening **next, const char *name, const char *path, int flags, va_list rest) {
   if (!*next) *next = (opening *)next_of(name);
-  if (kept(path)) { errno = EACCES; return -1; }
+  if (kept(path)) { errno = chosen("SHIM_OPEN_ERROR") ? (int)chosen("SHIM_OPEN_ERROR") : EACCES; return -1; }
   return (*next)(path, flags, flags & (O_CREAT | O_TMPFILE) ? va_arg(rest, mode_t) : 0);
 }
 
