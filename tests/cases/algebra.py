@@ -1,6 +1,7 @@
 """The commands on archives as sets: tables, files that cannot be read, calls that fail, and random archives, whole and broken,
 beside the second reader."""
 import resource
+from functools import partial
 from random import Random
 
 from cases.commands import row
@@ -97,10 +98,11 @@ def tables(program, results, folder):
 
 def few_descriptors(program, results, good):
     """Too many files for the descriptors that there are: the first that cannot be opened, and why."""
-    why = f" no file\n{good}: Too many open files (os error 24)\n".encode()
     for most, number in (4, 2), (12, 10):  # three are open already
-        seen = program.run(["union", *[good] * 20], preexec_fn=lambda most=most: resource.setrlimit(resource.RLIMIT_NOFILE, (most, most)))
-        results.same(f"union with {most} descriptors", seen, (2, b"", b"file %d" % number + why))
+        told = f"file {number} no file\n{good}: Too many open files (os error 24)\n".encode()
+        limited = partial(resource.setrlimit, resource.RLIMIT_NOFILE, (most, most))
+        seen = program.run(["union", *[good] * 20], preexec_fn=limited)
+        results.same(f"union with {most} descriptors", seen, (2, b"", told))
 
 
 def files(program, results, folder):

@@ -223,7 +223,7 @@ def at_a_turn(folders):
 def locks(folders):
     """A lock that has another name, or another owner, is refused, and nothing is written to it."""
     results, target = folders.results, folders.path / "target"
-    for command, name in ("serve", "lock"), ("compact", "lock.compact"):
+    for command, name in ("serve", "lock"), ("compact", "lock.compact"), ("expire", "lock.compact"), ("add", "lock.add"):
         store = folders.copy()
         (store / name).unlink(missing_ok=True)
         os.link(target, store / name)
