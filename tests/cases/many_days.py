@@ -7,9 +7,11 @@ import threading
 import time
 from datetime import date, timedelta
 
+from lib.power_cut import calls_of
 from lib.reference import archive_text, counted
 from lib.server import SOON, Runs, any_port, until
 from lib.store_format import JOURNAL, SEGMENT, files_of, held, is_named_right
+from lib.stores import Keeper
 
 DAYS = 27_000
 SEGMENTS = 65  # that a checkpoint writes at most
@@ -98,6 +100,37 @@ def undated(runs):
     runs.results.check("undated: its segments", {b"undated", b"mixed"} <= set(periods), str(periods))
 
 
+def of_many(number):
+    """A record of one of 64 days, each of which has a segment of its own."""
+    return b"<14>1 %bT12:00:00.000000Z - days - - - %d " % (str(FIRST + timedelta(number % 64)).encode(), number) + b"x" * 300
+
+
+def few_syncs(runs):
+    """A commit syncs its journal twice. A checkpoint syncs twice for each of its segments, and a few times more for the
+    next journal; so does a start."""
+    sent = [of_many(number) for number in range(5_000)]
+    store, log = runs.store(), runs.path / "log"
+    with runs.until_eof(*any_port("counted"), *SOON, "--checkpoint", 1, store=store,
+                        environment=Keeper(runs.program).tracing(store, log)) as server:
+        server.send("counted", counted(sent))
+        runs.holds("syncs", server, *sent)
+        runs.ends("syncs", server, 0)
+    calls = [call for call in calls_of(log.read_bytes()) if call.kind in ("sync", "names", "write")]
+    commits = sum(call.kind == "write" and call.octets == b"\1" and is_journal(call.name) for call in calls)
+    periods, checkpoints = periods_of(files_of(store))
+    of_journals = sum(call.kind == "sync" and is_journal(call.name) for call in calls)
+    others = sum(call.kind != "write" for call in calls) - of_journals
+    runs.results.check("syncs: segments", checkpoints > 0 and len(periods) > 32 * checkpoints, f"{len(periods)} {checkpoints}")
+    most = 2 * commits + 4 * (checkpoints + 1)
+    runs.results.check("syncs of journals", of_journals <= most, f"{of_journals} of {commits} commits, {checkpoints} checkpoints")
+    most = 2 * SEGMENTS * checkpoints + 4 * (checkpoints + 1)
+    runs.results.check("syncs of segments and of the folder", others <= most, f"{others} of {checkpoints} checkpoints")
+
+
+def is_journal(name):
+    return JOURNAL.fullmatch(name) is not None
+
+
 def without_room(runs):
     """A checkpoint that finds the disk full, where one may be mounted, leaves no draft, which would hold the room."""
     disk = runs.path / "disk"
@@ -133,4 +166,5 @@ def many_days(program, results, days=DAYS):
         alike(runs, days)
         some_large(runs, min(days, 9_000))
         undated(runs)
+        few_syncs(runs)
         without_room(runs)
