@@ -101,8 +101,8 @@ def undated(runs):
 
 
 def of_many(number):
-    """A record of one of 64 days, each of which has a segment of its own."""
-    return b"<14>1 %bT12:00:00.000000Z - days - - - %d " % (str(FIRST + timedelta(number % 64)).encode(), number) + b"x" * 300
+    """A record of one of 32 days, each of which has a segment of its own."""
+    return b"<14>1 %bT12:00:00.000000Z - days - - - %d " % (str(FIRST + timedelta(number % 32)).encode(), number) + b"x" * 300
 
 
 def few_syncs(runs):
@@ -120,7 +120,7 @@ def few_syncs(runs):
     periods, checkpoints = periods_of(files_of(store))
     of_journals = sum(call.kind == "sync" and is_journal(call.name) for call in calls)
     others = sum(call.kind != "write" for call in calls) - of_journals
-    runs.results.check("syncs: segments", checkpoints > 0 and len(periods) > 32 * checkpoints, f"{len(periods)} {checkpoints}")
+    runs.results.check("syncs: segments", checkpoints > 0 and len(periods) >= 16 * checkpoints, f"{len(periods)} {checkpoints}")
     most = 2 * commits + 4 * (checkpoints + 1)
     runs.results.check("syncs of journals", of_journals <= most, f"{of_journals} of {commits} commits, {checkpoints} checkpoints")
     most = 2 * SEGMENTS * checkpoints + 4 * (checkpoints + 1)
