@@ -4,9 +4,12 @@
  */
 #include "syslogbox.h"
 
+#include <stdio.h>
+
 /* What crates/c_library exports. No pointer is null. */
 int syslogbox_proved_check(const uint8_t *, size_t, struct syslogbox_fault *);
 int64_t syslogbox_proved_canonical(const uint8_t *, size_t, uint8_t *, size_t, struct syslogbox_fault *);
+int64_t syslogbox_proved_json(const uint8_t *, size_t, uint8_t *, size_t, struct syslogbox_fault *);
 int syslogbox_proved_view(const uint8_t *, size_t, struct syslogbox_parts *, struct syslogbox_fault *);
 int64_t syslogbox_proved_spans(const uint8_t *, size_t, struct syslogbox_part_span *, size_t,
                                struct syslogbox_fault *);
@@ -18,6 +21,7 @@ int64_t syslogbox_proved_frame(int, const uint8_t *, size_t, size_t *, size_t *)
 int64_t syslogbox_proved_pass(int, const uint8_t *, size_t, size_t *);
 int64_t syslogbox_proved_union(const uint8_t *, size_t, const uint8_t *, size_t, uint8_t *, size_t,
                                struct syslogbox_fault *);
+int syslogbox_proved_root(const uint8_t *, size_t, struct syslogbox_root *, struct syslogbox_fault *);
 int64_t syslogbox_proved_legacy(int, int, const uint8_t *, size_t, uint8_t *, size_t, struct syslogbox_fault *);
 
 static uint8_t nothing[1];
@@ -43,6 +47,64 @@ uint32_t syslogbox_library_version(void)
     return SYSLOGBOX_LIBRARY_VERSION;
 }
 
+/* What a fault of each kind says, before its field, behind it, and behind its offset; NULL where it has none. */
+static const struct meaning {
+    const char *field, *offset, *end;
+} meanings[] = {
+    [SYSLOGBOX_SYNTAX] = {"a syntax error in the", " at octet ", ""},
+    [SYSLOGBOX_INSTANT_RANGE] = {NULL, "the instant of the timestamp at octet ", " is out of range"},
+    [SYSLOGBOX_REPEATED_ID] = {NULL, "the element's id at octet ", " is repeated"},
+    [SYSLOGBOX_NOT_UTF8] = {NULL, "the message is not UTF-8 at octet ", ""},
+    [SYSLOGBOX_BAD_FRAME] = {"the", " archive has a bad frame at octet ", ""},
+    [SYSLOGBOX_ENTRY_TOO_LONG] = {"the", " archive has an entry that is too long at octet ", ""},
+    [SYSLOGBOX_BAD_ENTRY] = {"the", " archive has an entry that is not a record at octet ", ""},
+    [SYSLOGBOX_NOT_CANONICAL] = {"the", " archive has an entry that is not canonical at octet ", ""},
+    [SYSLOGBOX_NOT_ASCENDING] = {"the", " archive does not ascend at octet ", ""},
+    [SYSLOGBOX_NO_ROOM] = {NULL, "", " octets of room are needed"},
+    [SYSLOGBOX_NO_MEMORY] = {NULL, NULL, "out of memory"},
+    [SYSLOGBOX_BAD_CLOCK] = {NULL, NULL, "the year or the offset from UTC is out of range"},
+    [SYSLOGBOX_NO_ELEMENT] = {NULL, "there are ", " elements"},
+    [SYSLOGBOX_NO_PARAM] = {NULL, "there are ", " parameters"},
+    [SYSLOGBOX_RECORD_TOO_LONG] = {NULL, "the record has more than ", " octets"},
+};
+
+/* A space and the name of each field; nothing for an archive that is alone. */
+static const char *const fields[] = {
+    [SYSLOGBOX_NO_FIELD] = "",
+    [SYSLOGBOX_PRIORITY] = " priority",
+    [SYSLOGBOX_VERSION] = " version",
+    [SYSLOGBOX_TIMESTAMP] = " timestamp",
+    [SYSLOGBOX_HOSTNAME] = " hostname",
+    [SYSLOGBOX_APP_NAME] = " app name",
+    [SYSLOGBOX_PROC_ID] = " proc id",
+    [SYSLOGBOX_MSG_ID] = " msg id",
+    [SYSLOGBOX_STRUCTURED_DATA] = " structured data",
+    [SYSLOGBOX_MESSAGE] = " message",
+    [SYSLOGBOX_LEFT] = " left",
+    [SYSLOGBOX_RIGHT] = " right",
+};
+
+#define LENGTH(array) (sizeof(array) / sizeof *(array))
+
+static const char *name_of(uint32_t field)
+{
+    return field < LENGTH(fields) ? fields[field] : " record";
+}
+
+size_t syslogbox_fault_text(const struct syslogbox_fault *fault, char *text, size_t room)
+{
+    char number[24] = "";
+    const struct meaning *means = fault->kind < LENGTH(meanings) ? &meanings[fault->kind] : &meanings[0];
+
+    if (!means->end)
+        return (size_t)snprintf(text, room, "a fault of kind %lu", (unsigned long)fault->kind);
+    if (means->offset)
+        snprintf(number, sizeof number, "%llu", (unsigned long long)fault->offset);
+    return (size_t)snprintf(text, room, "%s%s%s%s%s", means->field ? means->field : "",
+                            means->field ? name_of(fault->field) : "", means->offset ? means->offset : "", number,
+                            means->end);
+}
+
 int syslogbox_check(const uint8_t *record, size_t len, struct syslogbox_fault *fault)
 {
     UNREAD(fault);
@@ -54,6 +116,12 @@ int64_t syslogbox_canonical(const uint8_t *record, size_t len, uint8_t *out, siz
 {
     UNREAD(fault);
     return syslogbox_proved_canonical(octets(record, len), len, space(out, room), room, fault);
+}
+
+int64_t syslogbox_json(const uint8_t *record, size_t len, uint8_t *out, size_t room, struct syslogbox_fault *fault)
+{
+    UNREAD(fault);
+    return syslogbox_proved_json(octets(record, len), len, space(out, room), room, fault);
 }
 
 int syslogbox_view(const uint8_t *record, size_t len, struct syslogbox_parts *parts, struct syslogbox_fault *fault)
@@ -105,6 +173,12 @@ int64_t syslogbox_union(const uint8_t *left, size_t left_len, const uint8_t *rig
     UNREAD(fault);
     return syslogbox_proved_union(octets(left, left_len), left_len, octets(right, right_len), right_len,
                                   space(out, room), room, fault);
+}
+
+int syslogbox_root(const uint8_t *archive, size_t len, struct syslogbox_root *root, struct syslogbox_fault *fault)
+{
+    UNREAD(fault);
+    return syslogbox_proved_root(octets(archive, len), len, root, fault);
 }
 
 int64_t syslogbox_legacy(int year, int offset_minutes, const uint8_t *packet, size_t len, uint8_t *out, size_t room,

@@ -16,7 +16,7 @@ _syslogbox_options() {
         archive)
             echo "--framing --trim --legacy --zone --dialect --spill --memory --help"
             ;;
-        merge | migrate | union | common | minus | diff | root | prove | confirm | verify | compact | add)
+        merge | migrate | union | common | minus | diff | root | prove | confirm | verify | stat | compact | add)
             echo "--help"
             ;;
         select)
@@ -100,7 +100,7 @@ _syslogbox_place() {
         "merge "* | "migrate "* | "union "* | "common "* | "minus "* | "diff "* | "prove "* | "confirm 3")
             echo "file"
             ;;
-        "read "* | "verify "* | "compact "* | "add "* | "expire "* | "serve "*)
+        "read "* | "verify "* | "stat "* | "compact "* | "add "* | "expire "* | "serve "*)
             echo "folder"
             ;;
         "collect 1")
@@ -111,7 +111,7 @@ _syslogbox_place() {
 
 _syslogbox() {
     local command=${COMP_WORDS[1]} word=$2 previous=$3 kind="" action="" words=""
-    local commands="show check convert archive merge migrate union common minus diff select digest count root prove confirm read verify compact add expire send collect serve help"
+    local commands="show check convert archive merge migrate union common minus diff select digest count root prove confirm read verify stat compact add expire send collect serve help"
     if [ "$COMP_CWORD" -eq 1 ]; then
         words="$commands --help --version"
     elif [ "$command" = help ]; then

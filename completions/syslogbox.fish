@@ -23,6 +23,7 @@ complete -c syslogbox -n __fish_use_subcommand -a prove -d 'Write proofs that an
 complete -c syslogbox -n __fish_use_subcommand -a confirm -d 'Say what proofs show of some records, without their archive'
 complete -c syslogbox -n __fish_use_subcommand -a read -d 'Write the archive of the records that a store holds'
 complete -c syslogbox -n __fish_use_subcommand -a verify -d 'Read a whole store and write a line for each damaged file'
+complete -c syslogbox -n __fish_use_subcommand -a stat -d 'Write a line for each file of a store: its records, octets and times'
 complete -c syslogbox -n __fish_use_subcommand -a compact -d 'Join the segments of each day of a store that has more than eight'
 complete -c syslogbox -n __fish_use_subcommand -a add -d 'Put the records of an archive into a store'
 complete -c syslogbox -n __fish_use_subcommand -a expire -d 'Remove old records from a store, and write a line for each file that goes'
@@ -67,7 +68,7 @@ complete -c syslogbox -n "__fish_seen_subcommand_from count" -l top -x -d 'Write
 complete -c syslogbox -n "__fish_seen_subcommand_from count" -l json -d 'Write each line as JSON'
 complete -c syslogbox -n "__fish_seen_subcommand_from count" -l bars -d 'Draw bars in the width of the terminal'
 complete -c syslogbox -n "__fish_seen_subcommand_from prove confirm" -F
-complete -c syslogbox -n "__fish_seen_subcommand_from read verify compact expire" -a '(__fish_complete_directories)'
+complete -c syslogbox -n "__fish_seen_subcommand_from read verify stat compact expire" -a '(__fish_complete_directories)'
 complete -c syslogbox -n "__fish_seen_subcommand_from add serve" -a '(__fish_complete_directories)'
 complete -c syslogbox -n "__fish_seen_subcommand_from expire" -l before -x -d 'Remove the records before TIME, which is rounded down to the hour'
 complete -c syslogbox -n "__fish_seen_subcommand_from expire" -l keep -x -d 'Remove the records that are older than DAYS days, rounded down to the hour'
@@ -95,4 +96,4 @@ complete -c syslogbox -n "__fish_seen_subcommand_from serve" -l idle -x -d 'Seco
 complete -c syslogbox -n "__fish_seen_subcommand_from serve" -l commit -x -d 'Milliseconds within which a record is committed'
 complete -c syslogbox -n "__fish_seen_subcommand_from serve" -l checkpoint -x -d 'MiB that a journal may reach before a checkpoint'
 complete -c syslogbox -n "__fish_seen_subcommand_from serve" -l until-eof -d 'End when standard input ends'
-complete -c syslogbox -n "__fish_seen_subcommand_from help" -a "show check convert archive merge migrate union common minus diff select digest count root prove confirm read verify compact add expire send collect serve"
+complete -c syslogbox -n "__fish_seen_subcommand_from help" -a "show check convert archive merge migrate union common minus diff select digest count root prove confirm read verify stat compact add expire send collect serve"

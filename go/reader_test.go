@@ -35,7 +35,7 @@ func read(r *Reader) (told []string) {
 
 func TestReader(t *testing.T) {
 	long, end := strings.Repeat("x", FrameMax+1), "syslogbox: the stream ends inside a frame: unexpected EOF"
-	fault, tooLong := "syslogbox: version: syntax at octet 4", "syslogbox: the frame has more than 262144 octets"
+	fault, tooLong := "syslogbox: a syntax error in the version at octet 4", "syslogbox: the frame has more than 262144 octets"
 	for _, row := range []struct {
 		framing Framing
 		stream  string

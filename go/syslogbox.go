@@ -101,24 +101,12 @@ type Fault struct {
 	Offset uint64
 }
 
+// Error gives what the library says of the fault.
 func (f *Fault) Error() string {
-	switch {
-	case f.Kind == NoRoom:
-		return fmt.Sprintf("syslogbox: %d octets of room are needed", f.Offset)
-	case f.Kind == NoMemory:
-		return "syslogbox: out of memory"
-	case f.Kind == BadClock:
-		return "syslogbox: the year or the offset from UTC is out of range"
-	case f.Kind == NoElement:
-		return fmt.Sprintf("syslogbox: there are %d elements", f.Offset)
-	case f.Kind == NoParam:
-		return fmt.Sprintf("syslogbox: there are %d parameters", f.Offset)
-	case f.Kind == TooLong:
-		return fmt.Sprintf("syslogbox: the record has more than %d octets", f.Offset)
-	case f.Field == NoField:
-		return fmt.Sprintf("syslogbox: %v at octet %d", f.Kind, f.Offset)
-	}
-	return fmt.Sprintf("syslogbox: %v: %v at octet %d", f.Field, f.Kind, f.Offset)
+	fault := C.struct_syslogbox_fault{C.uint32_t(f.Kind), C.uint32_t(f.Field), C.uint64_t(f.Offset)}
+	var text [128]C.char // longer than any
+	C.syslogbox_fault_text(&fault, &text[0], C.size_t(len(text)))
+	return "syslogbox: " + C.GoString(&text[0])
 }
 
 // Framing says how records are framed on a stream (RFC 6587).
@@ -209,6 +197,29 @@ func Union(left, right []byte) ([]byte, error) {
 	return text(len(left)+len(right), func(out *C.uint8_t, room C.size_t, fault *C.struct_syslogbox_fault) C.int64_t {
 		return C.syslogbox_union(octets(left), C.size_t(len(left)), octets(right), C.size_t(len(right)), out, room, fault)
 	})
+}
+
+// ArchiveRoot is how many records an archive has, and the hash of their Merkle tree (RFC 9162, section 2.1.1).
+type ArchiveRoot struct {
+	Count uint64
+	Hash  [32]byte
+}
+
+// String gives the line that `syslogbox root` prints, without its line feed.
+func (r ArchiveRoot) String() string { return fmt.Sprintf("%d %x", r.Count, r.Hash) }
+
+// Root returns the root of an archive.
+func Root(archive []byte) (ArchiveRoot, error) {
+	var root C.struct_syslogbox_root
+	var fault C.struct_syslogbox_fault
+	if C.syslogbox_root(octets(archive), C.size_t(len(archive)), &root, &fault) == 0 {
+		return ArchiveRoot{}, faultOf(&fault)
+	}
+	shown := ArchiveRoot{Count: uint64(root.count)}
+	for i, octet := range root.hash {
+		shown.Hash[i] = byte(octet)
+	}
+	return shown, nil
 }
 
 // Param is a parameter of an element, with its value unescaped.

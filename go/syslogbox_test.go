@@ -125,20 +125,23 @@ func TestTexts(t *testing.T) {
 	_, long := View(bytes.Repeat([]byte("x"), EntryMax+1))
 	_, archive := Union([]byte("x"), nil)
 	_, _, framing := Next(3, nil)
+	none, _ := Root(nil)
+	_, noRoot := Root([]byte("x"))
 	for _, row := range []struct {
 		seen  any
 		right string
 	}{
 		{clock, "syslogbox: the year or the offset from UTC is out of range"},
 		{long, "syslogbox: the record has more than 524295 octets"},
-		{archive, "syslogbox: left archive: bad frame at octet 0"},
-		{framing, "syslogbox: there is no framing 3"},
-		{Check(nil), "syslogbox: priority: syntax at octet 0"},
+		{archive, "syslogbox: the left archive has a bad frame at octet 0"},
+		{framing, "syslogbox: there is no framing 3"}, {none, "0 e3b0c44298fc1c149afbf4c8996fb92427ae41e4649b934ca495991b7852b855"},
+		{noRoot, "syslogbox: the archive has a bad frame at octet 0"},
+		{Check(nil), "syslogbox: a syntax error in the priority at octet 0"},
 		{&Fault{Kind: NoMemory}, "syslogbox: out of memory"},
 		{&Fault{Kind: NoRoom, Offset: 7}, "syslogbox: 7 octets of room are needed"},
 		{&Fault{Kind: NoElement, Offset: 7}, "syslogbox: there are 7 elements"},
 		{&Fault{Kind: NoParam, Offset: 7}, "syslogbox: there are 7 parameters"},
-		{&Fault{Kind: InstantRange, Offset: 6}, "syslogbox: instant out of range at octet 6"},
+		{&Fault{Kind: InstantRange, Offset: 6}, "syslogbox: the instant of the timestamp at octet 6 is out of range"},
 		{Counted, "counted"}, {LF, "lf"}, {Framing(0), "framing 0"}, {Framing(-1), "framing -1"},
 		{NoField, "no field"}, {FieldMsgID, "msgid"}, {Field(12), "field 12"}, {Kind(99), "kind 99"},
 	} {
@@ -162,7 +165,7 @@ func ExampleCheck() {
 	fmt.Println(Check([]byte("<0>1")))
 	// Output:
 	// <nil>
-	// syslogbox: version: syntax at octet 4
+	// syslogbox: a syntax error in the version at octet 4
 }
 
 func ExampleView() {

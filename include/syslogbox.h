@@ -31,7 +31,7 @@ extern "C" {
  * The version of this header: 10,000 times its first number, 100 times the second, and the third. The name
  * SYSLOGBOX_VERSION is a field of records, below.
  */
-#define SYSLOGBOX_LIBRARY_VERSION 700
+#define SYSLOGBOX_LIBRARY_VERSION 800
 
 /*
  * The version of the library that is called, in the same form. A shared library may be newer than the header that the
@@ -53,7 +53,7 @@ enum syslogbox_kind {
     SYSLOGBOX_INSTANT_RANGE = 2,  /* the timestamp there names an instant before the year 0 or after 9999 */
     SYSLOGBOX_REPEATED_ID = 3,    /* the element's id there is that of an earlier one (6.3.2) */
     SYSLOGBOX_NOT_UTF8 = 4,       /* a legacy packet's message starts with the BOM, and is not UTF-8 there */
-    SYSLOGBOX_BAD_FRAME = 5,      /* of an archive, `field` says which: the octet there cannot belong to a count; or
+    SYSLOGBOX_BAD_FRAME = 5,      /* of an archive, `field` says which of two: the octet there cannot belong to a count; or
                                      its length, if it ends inside an entry */
     SYSLOGBOX_ENTRY_TOO_LONG = 6, /* the entry there has more than SYSLOGBOX_ENTRY_MAX octets */
     SYSLOGBOX_BAD_ENTRY = 7,      /* the entry there is not a record: syslogbox_check of its octets says why */
@@ -88,6 +88,13 @@ struct syslogbox_fault {
     uint32_t kind, field;
     uint64_t offset;
 };
+
+/*
+ * Writes what a fault says, for people: "a syntax error in the hostname at octet 23". As snprintf does it: at most `room`
+ * octets with the NUL that ends them, and the length of the whole text is returned. A kind that the library does not know
+ * is told by its number.
+ */
+size_t syslogbox_fault_text(const struct syslogbox_fault *fault, char *text, size_t room);
 
 /* `len` octets of the record, from `offset` on. */
 struct syslogbox_span {
@@ -162,6 +169,12 @@ int syslogbox_check(const uint8_t *record, size_t len, struct syslogbox_fault *f
 int64_t syslogbox_canonical(const uint8_t *record, size_t len, uint8_t *out, size_t room,
                             struct syslogbox_fault *fault);
 
+/*
+ * Writes the record as an object of JSON (RFC 8259) and returns how many octets it has: the line of `syslogbox show --json`
+ * without its line feed. Or -1, with the fault (those of syslogbox_check, NO_ROOM, NO_MEMORY).
+ */
+int64_t syslogbox_json(const uint8_t *record, size_t len, uint8_t *out, size_t room, struct syslogbox_fault *fault);
+
 /* The parts of the record, as offsets into its octets: 1; or 0, with the fault of syslogbox_check. */
 int syslogbox_view(const uint8_t *record, size_t len, struct syslogbox_parts *parts, struct syslogbox_fault *fault);
 
@@ -223,6 +236,18 @@ int64_t syslogbox_pass(int framing, const uint8_t *piece, size_t len, size_t *co
  */
 int64_t syslogbox_union(const uint8_t *left, size_t left_len, const uint8_t *right, size_t right_len, uint8_t *out,
                         size_t room, struct syslogbox_fault *fault);
+
+/* How many records an archive has, and the hash of their Merkle tree (RFC 9162, section 2.1.1), a leaf for each record. */
+struct syslogbox_root {
+    uint64_t count;
+    uint8_t hash[32];
+};
+
+/*
+ * The root of an archive, which `syslogbox root` prints: 1; or 0, with the fault (of an archive, NO_MEMORY). `field` of the
+ * fault is 0.
+ */
+int syslogbox_root(const uint8_t *archive, size_t len, struct syslogbox_root *root, struct syslogbox_fault *fault);
 
 /*
  * Writes the canonical octets of the record that a packet is read as, and returns how many they are; or -1, with the

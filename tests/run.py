@@ -35,9 +35,9 @@ from lib.results import Results
 from lib.side_by_side import Parts, cores, python
 
 # the parts that run side by side, those that take longest first; each is a module of cases/ with a function of its name
-SIDE_BY_SIDE = ["stores", "libraries", "algebra", "mutated", "serving", "legacy", "bindings", "commands", "verdicts", "archives",
+SIDE_BY_SIDE = ["stores", "libraries", "algebra", "mutated", "serving", "serving_short", "legacy", "bindings", "commands", "verdicts", "archives",
                 "unsafe_folders", "damaged_journals", "damaged_segments", "many_days", "full_pipes", "notes_pace", "sending",
-                "collect", "adding", "expiring", "spilling", "counting", "proofs", "scarce_memory", "documents", "sockets", "descriptors", "costs", "auditing"]
+                "collect", "adding", "expiring", "statistics", "spilling", "counting", "proofs", "scarce_memory", "documents", "sockets", "descriptors", "costs", "auditing"]
 # these run after the others, one after the other: `soak` takes all cores itself, the others measure
 AT_THE_END = ["soak", "colliding_ids", "noisy_senders"]
 MODULES = {"soak": "hostile.soak"}

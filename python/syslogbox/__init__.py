@@ -13,7 +13,7 @@ Octets are `bytes`; offsets count them from 0. What is refused raises an excepti
 octet. The library is the one that the environment variable SYSLOGBOX_LIBRARY names, or the one in this folder, or the
 system's.
 """
-from ._archives import union
+from ._archives import Root, root, union
 from ._faults import ArchiveError, Field, Kind, PacketError, RecordError, StreamError, SyslogError
 from ._library import library_version
 from ._logging import Formatter, Handler, Writable
@@ -22,7 +22,7 @@ from ._streams import (ENTRY_MAX, FRAME_MAX, Framing, Readable, Refusal, Source,
                        frames, records)
 
 __all__ = ["ENTRY_MAX", "FRAME_MAX", "ArchiveError", "Element", "Field", "Formatter", "Framing", "Handler", "Kind",
-           "PacketError", "Readable", "Record", "RecordError", "Refusal", "Source", "StreamError", "SyslogError",
-           "Writable", "canonical", "check", "check_all", "check_stream", "framed", "frames", "is_record", "legacy",
-           "library_version", "records", "union", "view"]
-__version__ = "0.7.0"
+           "PacketError", "Readable", "Record", "RecordError", "Refusal", "Root", "Source", "StreamError",
+           "SyslogError", "Writable", "canonical", "check", "check_all", "check_stream", "framed", "frames",
+           "is_record", "legacy", "library_version", "records", "root", "union", "view"]
+__version__ = "0.8.0"

@@ -46,25 +46,20 @@ class Field(enum.IntEnum):
     RIGHT = 11
 
 
-MEANINGS = {
-    Kind.SYNTAX: "a syntax error in the {field} at octet {offset}",
-    Kind.INSTANT_RANGE: "the instant of the timestamp at octet {offset} is out of range",
-    Kind.REPEATED_ID: "the element's id at octet {offset} is repeated",
-    Kind.NOT_UTF8: "the message is not UTF-8 at octet {offset}",
-    Kind.BAD_FRAME: "the {field} archive has a bad frame at octet {offset}",
-    Kind.ENTRY_TOO_LONG: "the {field} archive has an entry that is too long at octet {offset}",
-    Kind.BAD_ENTRY: "the {field} archive has an entry that is not a record at octet {offset}",
-    Kind.NOT_CANONICAL: "the {field} archive has an entry that is not canonical at octet {offset}",
-    Kind.NOT_ASCENDING: "the {field} archive does not ascend at octet {offset}",
-    Kind.NO_ROOM: "{offset} octets of room are needed",
-    Kind.BAD_CLOCK: "the year or the offset from UTC is out of range",
-    Kind.NO_ELEMENT: "there are {offset} elements",
-    Kind.NO_PARAM: "there are {offset} parameters",
-    Kind.RECORD_TOO_LONG: "the record has more than {offset} octets",
+#: what the faults of a stream say; the library says what its own do
+_OF_STREAMS = {
     Kind.BAD_COUNT: "octet {offset} of the stream cannot belong to a count",
     Kind.TOO_LONG: "the frame at octet {offset} of the stream is too long",
     Kind.UNTERMINATED: "the stream ends inside the frame at octet {offset}",
 }
+
+
+def _meaning(kind: Kind, where: Field, offset: int) -> str:
+    """What a fault says."""
+    from . import _library  # which needs this module
+
+    told = _OF_STREAMS.get(kind)
+    return told.format(offset=offset) if told else _library.fault_text(kind, where, offset)
 
 
 class SyslogError(ValueError):
@@ -76,8 +71,7 @@ class SyslogError(ValueError):
         self.kind = Kind(kind)
         self.field = Field(where)
         self.offset = offset
-        name = self.field.name.lower().replace("_", " ")
-        super().__init__(MEANINGS[self.kind].format(field=name, offset=offset))
+        super().__init__(_meaning(self.kind, self.field, offset))
 
     def __reduce__(self) -> Tuple[Type[SyslogError], Tuple[int, int, int]]:
         # by its numbers, from which another process makes the same one

@@ -22,6 +22,10 @@ class Span(ctypes.Structure):
     _fields_ = [("offset", ctypes.c_size_t), ("len", ctypes.c_size_t)]
 
 
+class Root(ctypes.Structure):
+    _fields_ = [("count", ctypes.c_uint64), ("hash", ctypes.c_uint8 * 32)]
+
+
 class Parts(ctypes.Structure):
     _fields_ = [
         ("time", ctypes.c_int64),
@@ -77,8 +81,10 @@ value = _call("value", ctypes.c_int64, OCTETS, SIZE, POINTER, SIZE, POINTER)
 frame = _call("frame", ctypes.c_int64, ctypes.c_int, POINTER, SIZE, POINTER, POINTER)
 pass_over = _call("pass", ctypes.c_int64, ctypes.c_int, POINTER, SIZE, POINTER, library=_releasing)
 union = _call("union", ctypes.c_int64, OCTETS, SIZE, OCTETS, SIZE, POINTER, SIZE, POINTER, library=_releasing)
+root = _call("root", ctypes.c_int, OCTETS, SIZE, POINTER, POINTER, library=_releasing)
 legacy = _call("legacy", ctypes.c_int64, ctypes.c_int, ctypes.c_int, OCTETS, SIZE, POINTER, SIZE, POINTER)
 _version = _call("library_version", ctypes.c_uint32)
+_fault_text = _call("fault_text", ctypes.c_size_t, POINTER, POINTER, SIZE)
 
 
 def library_version() -> Tuple[int, int, int]:
@@ -114,6 +120,13 @@ def whole(name: str, value: SupportsIndex) -> int:
         return operator.index(value)
     except TypeError:
         raise TypeError(f"{name} has to be an int, not {type(value).__name__}") from None
+
+
+def fault_text(kind: int, where: int, offset: int) -> str:
+    """What a fault of the library says."""
+    fault, out = Fault(kind, where, offset), bytearray(128)
+    length = _fault_text(ctypes.byref(fault), room_of(out), len(out))
+    return out[:length].decode("ascii")
 
 
 def error_of(error: Type[SyslogError], fault: Fault) -> Exception:

@@ -5,7 +5,8 @@
  *   calls legacy YEAR OFFSET FILE   the same of packets under a clock
  *   calls frames FRAMING FILE       prints for each frame of a stream what `check` prints of it
  *   calls union LEFT RIGHT          writes the union of two archives, or prints its fault
- *   calls nulls                     null pointers with a length of 0
+ *   calls root FILE                 prints the root of an archive, or its fault
+ *   calls nulls                     null pointers with a length of 0, and what each fault says
  *   calls memory                    prints which calls fail for memory, under a malloc that fails (tests/lib/shim.c)
  *   calls costs FILE                prints of each call that reads the record what it answers, how many octets of stack it takes,
  *                                   and how many milliseconds
@@ -142,6 +143,12 @@ static int64_t canonical(const void *input, uint8_t *out, size_t room, struct sy
 {
     const struct octets *o = input;
     return syslogbox_canonical(o->at, o->len, out, room, fault);
+}
+
+static int64_t json(const void *input, uint8_t *out, size_t room, struct syslogbox_fault *fault)
+{
+    const struct octets *o = input;
+    return syslogbox_json(o->at, o->len, out, room, fault);
 }
 
 static int64_t value(const void *input, uint8_t *out, size_t room, struct syslogbox_fault *fault)
@@ -338,6 +345,20 @@ static void no_parts(struct octets record, struct syslogbox_fault right)
         EXPECT(is_fault(fault[i], right.kind, right.field, right.offset));
 }
 
+/* The record as JSON, whose length a call without room tells; tests/bindings/lines.c compares what it has. */
+static void object(struct octets record)
+{
+    struct syslogbox_fault fault;
+    struct octets text;
+
+    EXPECT(syslogbox_json(record.at, record.len, NULL, 0, &fault) == -1 && is_fault(fault, SYSLOGBOX_NO_ROOM, 0, fault.offset));
+    text = of_length((size_t)fault.offset);
+    EXPECT(syslogbox_json(record.at, record.len, text.at, text.len, NULL) == (int64_t)text.len);
+    EXPECT(text.len > 1 && text.at[0] == '{' && text.at[text.len - 1] == '}' && !memchr(text.at, '\n', text.len));
+    writes(json, &record, text);
+    release(text);
+}
+
 static void one_record(struct octets record, const char *answer)
 {
     struct syslogbox_fault fault = {77, 78, 79}, right;
@@ -348,6 +369,7 @@ static void one_record(struct octets record, const char *answer)
         struct octets text = of_hex(&answer);
         EXPECT(syslogbox_check(record.at, record.len, &fault) == 1 && is_fault(fault, 77, 78, 79));
         writes(canonical, &record, text);
+        object(record);
         parts(record);
         release(text);
         return;
@@ -358,6 +380,7 @@ static void one_record(struct octets record, const char *answer)
     EXPECT(is_fault(fault, right.kind, right.field, right.offset));
     EXPECT(syslogbox_check(record.at, record.len, NULL) == 0);
     refuses(canonical, &record, right.kind, right.field, right.offset);
+    refuses(json, &record, right.kind, right.field, right.offset);
     no_parts(record, right);
 }
 
@@ -489,6 +512,28 @@ static void unite(const char *left, const char *right)
     release(both[1]);
 }
 
+/* The root of the archive of a file, as `syslogbox root` prints it, or its fault; what is refused leaves the room. */
+static void root(const char *name)
+{
+    struct octets archive = of_file(name);
+    struct octets room = of_length(sizeof(struct syslogbox_root));
+    struct syslogbox_root *shown = (struct syslogbox_root *)(void *)room.at;
+    struct syslogbox_fault fault = {77, 78, 79};
+
+    if (syslogbox_root(archive.at, archive.len, shown, &fault)) {
+        EXPECT(is_fault(fault, 77, 78, 79));
+        printf("%llu ", (unsigned long long)shown->count);
+        for (size_t i = 0; i < sizeof shown->hash; i++)
+            printf("%02x", shown->hash[i]);
+        printf("\n");
+    } else {
+        EXPECT(is_filled(room.at, room.len) && !syslogbox_root(archive.at, archive.len, shown, NULL));
+        printf("%u %u %llu\n", fault.kind, fault.field, (unsigned long long)fault.offset);
+    }
+    release(room);
+    release(archive);
+}
+
 static void nulls(void)
 {
     struct octets none[2] = {{.at = NULL}, {.at = NULL}}, nothing = {.at = (uint8_t *)""};
@@ -496,18 +541,64 @@ static void nulls(void)
     size_t start = 77, end = 78;
     static const char nil[] = "<13>1 - - - - - -";
     struct packet packet = {2003, 0, {.at = NULL}};
+    struct syslogbox_root none_of;
 
     EXPECT(syslogbox_check(NULL, 0, &fault) == 0 && is_fault(fault, SYSLOGBOX_SYNTAX, SYSLOGBOX_PRIORITY, 0));
     EXPECT(syslogbox_check(NULL, 0, NULL) == 0);
     refuses(canonical, none, SYSLOGBOX_SYNTAX, SYSLOGBOX_PRIORITY, 0);
+    refuses(json, none, SYSLOGBOX_SYNTAX, SYSLOGBOX_PRIORITY, 0);
     no_parts(none[0], (struct syslogbox_fault){SYSLOGBOX_SYNTAX, SYSLOGBOX_PRIORITY, 0});
     writes(value, none, nothing);
     EXPECT(syslogbox_frame(SYSLOGBOX_COUNTED, NULL, 0, &start, &end) == 0 && !start && !end);
     EXPECT(syslogbox_frame(SYSLOGBOX_LF, NULL, 0, &start, &end) == 0 && !start && !end);
     EXPECT(syslogbox_pass(SYSLOGBOX_COUNTED, NULL, 0, &start) == 0 && !start);
     EXPECT(syslogbox_union(NULL, 0, NULL, 0, NULL, 0, &fault) == 0);
+    EXPECT(syslogbox_root(NULL, 0, &none_of, NULL) == 1 && !none_of.count && none_of.hash[0] == 0xe3);
     writes(joined, none, nothing);
     writes(legacy, &packet, (struct octets){.at = (uint8_t *)nil, .len = sizeof nil - 1});
+}
+
+static const struct told {
+    struct syslogbox_fault fault;
+    const char *text;
+} texts[] = {
+    {{SYSLOGBOX_SYNTAX, SYSLOGBOX_HOSTNAME, 23}, "a syntax error in the hostname at octet 23"},
+    {{SYSLOGBOX_SYNTAX, SYSLOGBOX_STRUCTURED_DATA, 0}, "a syntax error in the structured data at octet 0"},
+    {{SYSLOGBOX_SYNTAX, 77, 1}, "a syntax error in the record at octet 1"},
+    {{SYSLOGBOX_INSTANT_RANGE, 0, 8}, "the instant of the timestamp at octet 8 is out of range"},
+    {{SYSLOGBOX_REPEATED_ID, 0, 9}, "the element's id at octet 9 is repeated"},
+    {{SYSLOGBOX_NOT_UTF8, 0, 5}, "the message is not UTF-8 at octet 5"},
+    {{SYSLOGBOX_BAD_FRAME, SYSLOGBOX_LEFT, 3}, "the left archive has a bad frame at octet 3"},
+    {{SYSLOGBOX_ENTRY_TOO_LONG, SYSLOGBOX_LEFT, 3}, "the left archive has an entry that is too long at octet 3"},
+    {{SYSLOGBOX_BAD_ENTRY, SYSLOGBOX_RIGHT, 3}, "the right archive has an entry that is not a record at octet 3"},
+    {{SYSLOGBOX_NOT_CANONICAL, SYSLOGBOX_RIGHT, 3}, "the right archive has an entry that is not canonical at octet 3"},
+    {{SYSLOGBOX_NOT_ASCENDING, SYSLOGBOX_RIGHT, 3}, "the right archive does not ascend at octet 3"},
+    {{SYSLOGBOX_NO_ROOM, 0, 16}, "16 octets of room are needed"},
+    {{SYSLOGBOX_NO_MEMORY, 0, 0}, "out of memory"},
+    {{SYSLOGBOX_BAD_CLOCK, 0, 0}, "the year or the offset from UTC is out of range"},
+    {{SYSLOGBOX_NO_ELEMENT, 0, 2}, "there are 2 elements"},
+    {{SYSLOGBOX_NO_PARAM, 0, 0}, "there are 0 parameters"},
+    {{SYSLOGBOX_RECORD_TOO_LONG, 0, SYSLOGBOX_ENTRY_MAX}, "the record has more than 524295 octets"},
+    {{SYSLOGBOX_NO_FAULT, 0, 0}, "a fault of kind 0"},
+    {{16, 3, 4}, "a fault of kind 16"},
+    {{SYSLOGBOX_SYNTAX, SYSLOGBOX_MSG_ID, UINT64_MAX}, "a syntax error in the msg id at octet 18446744073709551615"},
+    {{SYSLOGBOX_NOT_ASCENDING, 0, 19}, "the archive does not ascend at octet 19"},
+};
+
+/* What each kind says, in rooms of every length. */
+static void fault_texts(void)
+{
+    for (size_t i = 0; i < sizeof texts / sizeof *texts; i++) {
+        const size_t len = strlen(texts[i].text);
+        EXPECT(syslogbox_fault_text(&texts[i].fault, NULL, 0) == len);
+        for (size_t room = 1; room <= len + SPARE; room++) {
+            struct octets out = of_length(room);
+            const size_t shown = room > len ? len : room - 1;
+            EXPECT(syslogbox_fault_text(&texts[i].fault, (char *)out.at, room) == len);
+            EXPECT(!memcmp(out.at, texts[i].text, shown) && !out.at[shown] && is_filled(out.at + shown + 1, room - shown - 1));
+            release(out);
+        }
+    }
 }
 
 /* A call that takes memory answers; or it fails for that alone, leaves its room, and its name is printed. */
@@ -535,6 +626,8 @@ static void memory(void)
     struct syslogbox_element e;
     struct syslogbox_param q;
     struct syslogbox_part_span spans[14];
+    struct syslogbox_root head;
+    struct syslogbox_fault fault;
     size_t start, end;
 
     EXPECT(syslogbox_check(record.at, record.len, NULL) && syslogbox_view(record.at, record.len, &p, NULL) && p.elements == 2);
@@ -543,8 +636,11 @@ static void memory(void)
     EXPECT(syslogbox_frame(SYSLOGBOX_COUNTED, both->at, both->len, &start, &end) == 19);
     EXPECT(syslogbox_pass(SYSLOGBOX_COUNTED, both->at, both->len, &start) == 19 && start == 1);
     takes_memory("canonical\n", canonical, &record);
+    takes_memory("json\n", json, &record);
     takes_memory("value\n", value, &raw);
     takes_memory("union\n", joined, both);
+    if (!syslogbox_root(both->at, both->len, &head, &fault))
+        EXPECT(is_fault(fault, SYSLOGBOX_NO_MEMORY, 0, 0) && write(1, "root\n", 5) == 5);
     takes_memory("legacy\n", legacy, &packet);
 }
 
@@ -563,6 +659,11 @@ static int64_t checks(struct octets record, struct octets out)
 static int64_t writes_canonical(struct octets record, struct octets out)
 {
     return syslogbox_canonical(record.at, record.len, out.at, out.len, NULL);
+}
+
+static int64_t writes_json(struct octets record, struct octets out)
+{
+    return syslogbox_json(record.at, record.len, out.at, out.len, NULL);
 }
 
 static int64_t views(struct octets record, struct octets out)
@@ -649,10 +750,10 @@ static size_t stack_of(struct run *run)
 static void costs(const char *name)
 {
     static const struct reading readings[] = {
-        {"check", checks}, {"canonical", writes_canonical}, {"view", views}, {"spans", shows_spans},
+        {"check", checks}, {"canonical", writes_canonical}, {"json", writes_json}, {"view", views}, {"spans", shows_spans},
         {"element", finds_element}, {"param", finds_param}, {"pass", passes_over}, {"legacy", reads_packet},
     };
-    struct octets line = of_file(name), out = of_length(2 * line.len + 64);
+    struct octets line = of_file(name), out = of_length(6 * line.len + 256);
 
     for (size_t i = 0; i < sizeof readings / sizeof *readings; i++) {
         struct run run = {.reading = readings[i], .record = line, .out = out};
@@ -681,8 +782,11 @@ int main(int argc, char **argv)
         release(stream);
     } else if (!strcmp(mode, "union") && argc == 4) {
         unite(argv[2], argv[3]);
+    } else if (!strcmp(mode, "root") && argc == 3) {
+        root(argv[2]);
     } else if (!strcmp(mode, "nulls")) {
         nulls();
+        fault_texts();
     } else if (!strcmp(mode, "memory")) {
         memory();
     } else if (!strcmp(mode, "costs") && argc == 3) {

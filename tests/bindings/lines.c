@@ -6,8 +6,8 @@
  *   lines union LEFT RIGHT           of each record in the union of two archives
  *
  * A line is made of the octets as they are, by all of their spans, and once more of their canonical form, by each element and
- * parameter on its own: if the two differ, the number of the frame is told, and the status is 1. So it is if syslogbox_pass
- * counts other records than are printed.
+ * parameter on its own: if the two differ, or syslogbox_json gives another, the number of the frame is told, and the status
+ * is 1. So it is if syslogbox_pass counts other records than are printed.
  */
 #define _GNU_SOURCE
 #include <stdio.h>
@@ -267,6 +267,19 @@ static char *line_of(struct octets record, struct octets canonical)
     return text;
 }
 
+/* The call that makes JSON gives the line without its line feed. */
+static void compare_json(struct octets record, const char *line, unsigned long number)
+{
+    size_t len = strlen(line) - 1;
+    uint8_t *out = room(len);
+
+    if (syslogbox_json(record.at, record.len, out, len, NULL) != (int64_t)len || memcmp(out, line, len)) {
+        fprintf(stderr, "frame %lu: syslogbox_json gives another line\n", number);
+        exit(1);
+    }
+    free(out);
+}
+
 static void put_record(struct octets record, unsigned long number)
 {
     struct octets canonical = {room(2 * record.len + 7), 2 * record.len + 7};
@@ -276,6 +289,7 @@ static void put_record(struct octets record, unsigned long number)
         abort();
     canonical.len = (size_t)len;
     char *line = line_of(record, canonical), *again = line_of(canonical, canonical);
+    compare_json(record, line, number);
     if (strcmp(line, again)) {
         fprintf(stderr, "frame %lu: another line of its canonical form\n", number);
         exit(1);

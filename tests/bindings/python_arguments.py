@@ -78,7 +78,7 @@ def octets(results, package):
     calls = [("check", package.check), ("is_record", package.is_record), ("canonical", package.canonical), ("view", package.view),
              ("legacy", lambda wrong: package.legacy(wrong, 2026)), ("framed", package.framed),
              ("a line", lambda wrong: package.framed(wrong, package.Framing.LF)),
-             ("union, left", lambda wrong: package.union(wrong, b"")), ("union, right", lambda wrong: package.union(b"", wrong)),
+             ("union, left", lambda wrong: package.union(wrong, b"")), ("root", lambda wrong: package.root(wrong)), ("union, right", lambda wrong: package.union(b"", wrong)),
              ("check_stream", lambda wrong: list(package.check_stream(wrong)))]
     for wrong in ("<0>1", None, 7, 1e3, bytearray(RECORD), [1]):
         for name, call in calls:

@@ -87,6 +87,7 @@ def in_c(program, results, folder, frames, answers):
     results.same("C: packets that are long", run(calls, ["legacy", "2024", "0", packed]), (0, b"", b""))
     streams(program, results, folder, calls, frames)
     unions(program, results, folder, calls)
+    roots(program, results, folder, calls)
     calls, built, said = compiled(folder, "unsanitized", [ROOT / "tests/bindings/calls.c"], "-O1")
     results.check("C: the calls are compiled without sanitizers", built, said)
     if built:
@@ -99,7 +100,7 @@ def interface(results):
     declared = set(re.findall(r"^[a-z]\w* (syslogbox_\w+)\(", (ROOT / "include/syslogbox.h").read_text(), re.M))
     exported = run("nm", ["-D", "--defined-only", ROOT / "build/libsyslogbox.so.0"])[1].decode().split()[2::3]
     calls = dict(name.split("@@") for name in exported if not name.startswith("SYSLOGBOX_"))
-    results.check("the shared library has the header's calls alone", set(calls) == declared and len(calls) == 12, str(exported))
+    results.check("the shared library has the header's calls alone", set(calls) == declared and len(calls) == 15, str(exported))
     version = run("sh", ["scripts/version.sh"], cwd=ROOT)[1].decode().strip()
     numbers = [int(number) for number in version.split(".")]
     right = [name for name, of in calls.items() if [int(number) for number in of.removeprefix("SYSLOGBOX_").split(".")] > numbers[:2]]
@@ -125,6 +126,13 @@ def header(results, folder):
         results.same(f"the header in {standard}", run(compiler, [*words, source]), (0, b"", b""))
 
 
+def object_len(names, message):
+    """How many octets the object of a record with these ids has as JSON."""
+    shown = {"priority": 34, "facility": "auth", "severity": "crit", "time": "2003-10-11T22:14:15.003000Z", "host": "host", "app": "app",
+             "proc": "1", "msgid": "id", "data": {name.decode(): [] for name in names}, "message": message.decode()}
+    return len(json.dumps(shown, separators=(",", ":")))
+
+
 def hardest(results, folder, calls):
     """What records take that have as many octets as are read, and many ids; and that one with an octet more is read by no call."""
     room = reference.ENTRY_MAX - len(FRONT) - 1
@@ -132,10 +140,12 @@ def hardest(results, folder, calls):
     for name, names in [("as many as fit", most(room)), ("all of three octets", scattered),
                         ("descending", sorted(scattered, reverse=True)), ("that collide", fitting(colliding() + scattered, room))]:
         record = FRONT + data(names) + b" "
-        record += b"x" * (reference.ENTRY_MAX - len(record))
+        message = b"x" * (reference.ENTRY_MAX - len(record))
+        record += message
         form = len(record) + 3
-        read = {"check": 1, "canonical": form, "view": 1, "spans": 8 + len(names), "element": 1, "param": 0, "pass": len(record) + 1, "legacy": form}
-        none = {"check": 0, "canonical": -1, "view": 0, "spans": -1, "element": 0, "param": 0, "pass": 0, "legacy": -1}
+        read = {"check": 1, "canonical": form, "json": object_len(names, message), "view": 1, "spans": 8 + len(names), "element": 1,
+                "param": 0, "pass": len(record) + 1, "legacy": form}
+        none = {"check": 0, "canonical": -1, "json": -1, "view": 0, "spans": -1, "element": 0, "param": 0, "pass": 0, "legacy": -1}
         for octets, right in [(record, read), (record + b"x", none)]:
             status, output, notes = run(calls, ["costs", folder.file("record", octets + b"\n")])
             rows = [line.split() for line in output.decode().splitlines()]
@@ -155,7 +165,7 @@ def without_memory(program, results, calls):
         refused.append(name)
         results.check(f"C: allocation {len(refused)}", status == 0 and name.count(b"\n") == 1, f"{status} {name} {notes}")
         built = status == 0
-    results.check("C: memory is refused", sorted(set(refused)) == [b"canonical\n", b"legacy\n", b"union\n", b"value\n"], str(refused))
+    results.check("C: memory is refused", sorted(set(refused)) == [b"canonical\n", b"json\n", b"legacy\n", b"root\n", b"union\n", b"value\n"], str(refused))
 
 
 def streams(program, results, folder, calls, frames):
@@ -192,6 +202,17 @@ def unions(program, results, folder, calls):
         alone = program.run(["merge", names[0], folder.file("none", b"")])[2] or notes
         told = "{} {} {}\n".format(*numbers(alone)).encode()
         results.same(f"C: no union of {left[:40]!r} and {right[:40]!r}", seen, (0, told, b""))
+
+
+def roots(program, results, folder, calls):
+    """The roots of archives beside the command `root`; of what is none, the fault that `merge` tells."""
+    for archive in (one for pair in archives(program) for one in pair):
+        name = folder.file("archive", archive)
+        status, output, _ = program.run(["root"], archive)
+        if status:
+            kind, _, offset = numbers(program.run(["merge", name, folder.file("none", b"")])[2])
+            output = f"{kind} 0 {offset}\n".encode()
+        results.same(f"C: the root of {archive[:40]!r}", run(calls, ["root", name]), (0, output, b""))
 
 
 # ---- Python
@@ -240,6 +261,8 @@ def in_python(program, results, folder, frames, answers):
         status, output, _ = program.run(["merge", folder.file("left", left), folder.file("right", right)])
         if status == 0:
             results.check(f"Python: a union of {len(left)} and {len(right)} octets", module.union(left, right) == output)
+            root = program.run(["root"], output)[1].decode()
+            results.check(f"Python: the root of {len(output)} octets", f"{module.root(output)}\n" == root, root)
     python_package.package(results, folder, module, frames, answers)
     python_arguments.arguments(results, folder, module)
     python_streams(results, module, some)

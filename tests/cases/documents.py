@@ -20,7 +20,8 @@ DOCUMENTS = [path for folder in (".", "docs", "cluster") for path in sorted((ROO
 TOURS = ["README.md", "docs/COMMANDS.md", "docs/COMING_FROM.md", "docs/RECIPES.md"]  # those that begin in an empty folder
 PAGES = sorted((ROOT / "man").glob("*.[1-8]"))
 LINTERS = [["groff", "-ww", "-mandoc", "-Tutf8"], ["mandoc", "-T", "lint", "-W", "warning"]]
-README_LINES, COLUMNS = 150, 120
+README_LINES, COLUMNS, WORDS = 150, 120, 30
+PLAIN_PAGES = ["README.md", "docs/OPERATING.md", "docs/AUDITING.md", "docs/RECIPES.md"]  # whose sentences are short
 FENCED = re.compile(r"^```.*?^```$", re.MULTILINE | re.DOTALL)
 SPAN = re.compile(r"`([^`]+)`")
 LINK = re.compile(r"\[[^\]]*\]\(([^)\s]+)\)")
@@ -250,6 +251,21 @@ def widths(results):
         results.check(f"{name_of(document)} has no line above {COLUMNS} columns but rows of tables", not wide, str(wide[:1]))
 
 
+def sentences(document):
+    """The sentences of a document, with a span of code and a link as one word each."""
+    text = re.sub(r"\[[^\]]*\]\([^)]*\)", "link", SPAN.sub("code", prose(document)))
+    for paragraph in re.split(r"\n\s*\n", text):
+        cells = paragraph.split("|") if paragraph.startswith("|") else re.split(r"\n(?=- |\d+\. |#)", paragraph)
+        for cell in cells:
+            yield from re.split(r"(?<=[.!?])[)\"*]*\s+", " ".join(cell.split()))
+
+
+def short(results):
+    for name in PLAIN_PAGES:
+        long = [sentence for sentence in sentences(ROOT / name) if len(sentence.split()) > WORDS]
+        results.check(f"{name} has no sentence of more than {WORDS} words", not long, str(long[:3]))
+
+
 def tables(results):
     """The rows of a table have as many cells as its head."""
     for document in DOCUMENTS:
@@ -328,6 +344,7 @@ def documents(program, results):
     units(results)
     manual(results)
     widths(results)
+    short(results)
     tables(results)
     for name in TOURS:
         take_tour(program, results, name)

@@ -383,10 +383,36 @@ def full_disk(runs):
         subprocess.run(["umount", str(disk)], check=True)
 
 
+def printed(path):
+    """A path as a line has it: octets from 32 to 126 as themselves, but quote and backslash, and all others as `\\x..`."""
+    octets = os.fsencode(path)
+    return b"".join(b"%c" % one if 32 <= one <= 126 and one not in b'"\\' else b"\\x%02x" % one for one in octets)
+
+
+# folders whose names have octets that would do something to a terminal, or to a line
+NAMES = ["a\x1b[31mb", "a\nb", "\r\ta", "a\x7f", "a\u009b31mb", 'a"b\\x1b']
+
+
 def shown(runs):
-    """The name of a folder that has control octets is printed without them."""
-    store = runs.path / "none" / "a\x1b[31mb"
-    runs.refused("a name with an escape", any_port("lf"), f"{store}".replace("\x1b", "\\x1b") + ": ", store=store)
+    """The name of a folder that has control octets is printed without them, by whatever command tells of it."""
+    for name in NAMES:
+        none, empty = runs.path / "none" / name, runs.path / name
+        empty.mkdir()
+        with runs.server(*any_port("lf"), store=none) as server:
+            right = server.status() == 2 and all(line.startswith(printed(none) + b": No such file") for line in server.told())
+            runs.results.check(f"serve of {name!r}", right and len(server.told()) == 1, str(server.told()))
+        for command, *words in ["read"], ["verify"], ["compact"], ["expire", "--keep", "1"], ["add"]:
+            seen = runs.program.run([command, str(none), *words])
+            line = printed(none) + b": No such file or directory (os error 2)\n"
+            runs.results.same(f"{command} of {name!r}, which is not there", seen, (2, b"", line))
+            if command != "add":
+                seen = runs.program.run([command, str(empty), *words])
+                line = printed(empty) + b": not a store: it has neither a journal nor a segment\n"
+                runs.results.same(f"{command} of {name!r}, which is empty", seen, (2, b"", line))
+        (empty / "lock").mkdir()
+        with runs.server(*any_port("lf"), store=empty) as server:
+            right = [printed(empty) + b"/lock: Is a directory (os error 21)"]
+            runs.results.check(f"serve of {name!r}, whose lock is a folder", (server.status(), server.told()) == (2, right), str(server.told()))
 
 
 TESTS = [unread, read_late, no_reader, in_order, to_a_file, stopped_terminal, silent_terminal, torn, others, damaged, turned, never_turned, full_disk, shown]

@@ -288,12 +288,10 @@ def full_mount(runs):
 
 
 def failing(runs):
-    """Any other failure of the disk, and a sync that finds it full, ends it, with a line that names the file and the
-    cause; what was committed is there."""
-    rows = [("create", 1), ("write", 2), ("write", 3), ("write", 4), ("sync", 1), ("sync", 3), ("names", 1)]
-    for kind, count, error in [*((*row, errno.EIO) for row in rows), ("sync", 3, errno.ENOSPC)]:
+    """Any other failure of the disk ends it, with a line that names the file and the cause; what was committed is there."""
+    for kind, count in [("create", 1), ("write", 2), ("write", 3), ("write", 4), ("sync", 1), ("sync", 3), ("names", 1)]:
         store = runs.store()
-        chosen = {"fail": f"{kind} {count} {error}"}
+        chosen = {"fail": f"{kind} {count} {errno.EIO}"}
         environment = Keeper(runs.program).tracing(store, runs.path / "log", **chosen)
         sent = [numbered(n) for n in range(40)]
         with runs.until_eof(*any_port("udp"), *SOON, store=store, environment=environment) as server:
@@ -303,10 +301,9 @@ def failing(runs):
                     committed = server.held()
                     fling(server, one)
             status, lines = server.status(), server.lines()
-            said = lines and lines[-1].startswith(bytes(store)) and os.strerror(error).encode() in lines[-1]
+            said = lines and lines[-1].startswith(bytes(store)) and os.strerror(errno.EIO).encode() in lines[-1]
             runs.results.check(f"{kind} {count} fails: its end", status == 2 and said, f"{status} {lines}")
-            told = b"store full" in lines
-            runs.results.check(f"{kind} {count} fails: what is told", told == (error == errno.ENOSPC), str(lines))
+            runs.results.check(f"{kind} {count} fails: what is told", b"store full" not in lines, str(lines))
         with runs.until_eof(*any_port("lf"), *SOON, store=store) as server:
             found = server.held()
             runs.results.check(f"{kind} {count} fails: what is held", committed <= found <= set(sent))

@@ -1,4 +1,4 @@
-"""`archive --spill`: sets larger than their room, on the system's files."""
+"""`archive --spill`: sets larger than their room, on the system's files; and want of memory."""
 import os
 import random
 import resource
@@ -60,6 +60,22 @@ def folders(program, results, folder):
         results.check(f"a spill into {path.name}", (seen[0], seen[2]) == (2, b"spill fault\n"), str(seen))
 
 
+def short_of_memory(program, results, folder):
+    """Each allocation fails in turn: want of memory is told as that, whatever it was wanted for, and never as a fault of a
+    file. A prefix of the archive is written then, and nothing is left."""
+    octets, told = lines(3_000) * 3, 0
+    octets += lines(4_000, 43)
+    ample = program.run(words(folder, 1), octets)
+    made = program.counts(words(folder, 1), octets).malloc
+    for n in range(1, made + 2):
+        seen = program.run(words(folder, 1), octets, program.failing(malloc=n))
+        wanting = (seen[0], seen[2]) == (3, b"want of memory\n") and ample[1].startswith(seen[1])
+        results.check(f"archive --spill, allocation {n} of {made}", wanting or seen == ample, f"{seen[0]} {len(seen[1])} {seen[2]}")
+        results.check(f"nothing is left, allocation {n} of {made}", not os.listdir(folder), str(os.listdir(folder)))
+        told += wanting
+    results.check("archive --spill, want of memory is told", 0 < told <= made, str(told))
+
+
 def spilled(process):
     """How many files without a name a process has open in its folder."""
     links = (os.readlink(link) for link in Path(f"/proc/{process.pid}/fd").iterdir())
@@ -91,4 +107,5 @@ def spilling(program, results):
         rooms(program, results, folder, octets, archive)
         full_disks(program, results, folder, octets, archive)
         folders(program, results, folder)
+        short_of_memory(program, results, folder)
         kill(program, results, folder, octets)

@@ -1,5 +1,6 @@
-"""A store on the system's files: each call on its disk fails, is short or is the last of the process; power cuts and kills by
-chance; folders that cannot be used; octets of segments that are changed; the same of compactions.
+"""A store on the system's files: each call on its disk fails, is short or is the last of the process; syncs that find no room,
+and lose what they were to bring to the disk; power cuts and kills by chance; folders that cannot be used; octets of segments
+that are changed; the same of compactions.
 
 No clause says what a file of the system gives. `hostile/stores.py` has the power cuts and the kills, and longer runs of them,
 `hostile/compaction.py` the compactions.
@@ -15,7 +16,7 @@ from datetime import date, timedelta
 from pathlib import Path
 
 from hostile.compaction import compactions
-from hostile.stores import cuts, kills, readings, room, wrong_stores
+from hostile.stores import cuts, kills, not_written_again, readings, room, wrong_stores
 from lib.power_cut import calls_of
 from lib.program import Program
 from lib.reference import archive_text
@@ -30,6 +31,8 @@ LINE = re.compile(rb"(journal\.\d+|\S+\.archive|\S+/lock|the folder): [^\n]*(Inp
 SENT = records("faults", 0, 14, 20)
 MORE = records("faults", 100, 5, 20)
 BATCH, CHECKPOINT = 3, 150
+# want of room, on a disk or in memory, and how it is told
+SHORT = {errno.ENOSPC: b"No space left on device", errno.EDQUOT: b"Disk quota exceeded", errno.ENOMEM: b"out of memory"}
 
 
 class Faults:
@@ -37,6 +40,10 @@ class Faults:
 
     def __init__(self, keeper, results, path):
         self.keeper, self.results, self.path, self.log = keeper, results, Path(path), Path(path) / "log"
+
+    def calls(self):
+        """The calls of the last run."""
+        return calls_of(self.log.read_bytes())
 
     def run(self, **chosen):
         """The answer of a run on a new folder."""
@@ -48,7 +55,7 @@ class Faults:
     def made(self):
         """How many calls of each kind a run makes, and in all."""
         self.run()
-        counts = Counter(call.kind for call in calls_of(self.log.read_bytes()))
+        counts = Counter(call.kind for call in self.calls())
         return counts, sum(counts[kind] for kind in KINDS)
 
     def is_kept(self, name, answer):
@@ -96,16 +103,58 @@ class Faults:
             self.is_kept(name, answer)
 
 
+    def before_open(self):
+        """How many calls of each kind a run makes until it has told that the store is open."""
+        self.run()
+        calls = self.calls()
+        opened = next(n for n, call in enumerate(calls) if call.octets == b"open\n")
+        return Counter(call.kind for call in calls[:opened])
+
+    def goes_on(self, name, answer):
+        """A run that found no room for a while has ended well, and all that it was given is there."""
+        right = answer[0] == 0 and not answer[2] and told_committed(answer[1]) == len(SENT)
+        self.results.check(name, right, str(answer))
+        lost = [call.kind for call in self.calls()].count("lost")
+        self.results.check(f"{name}: syncs failed", lost > 0, str(lost))
+        self.results.same(f"{name}: what is read", self.keeper.read(self.path / "store"), (0, archive_text(SENT), b""))
+        self.is_kept(name, answer)
+
+    def finds_no_room(self, counts):
+        """Each sync finds no room in turn, once or several times, and what it was to bring to the disk is lost: it is written
+        again. While a store is opened nothing is tried again, nor for want of memory: that is told."""
+        early = self.before_open()
+        for kind, n in [(kind, n) for kind in ("sync", "names") for n in range(1, counts[kind] + 1)]:
+            for error, times, spoil in [(errno.ENOSPC, 1, 1), (errno.ENOSPC, 3, 0), (errno.ENOSPC, 5, 255), (errno.EDQUOT, 2, 1),
+                                        (errno.ENOMEM, 1, 0)]:
+                name = f"{kind} {n} of {counts[kind]} finds no room {times} times, {os.strerror(error)}, spoiled by {spoil}"
+                answer = self.run(fail=f"{kind} {n} {error} {n + times - 1}", spoil=spoil)
+                if error != errno.ENOMEM and n > early[kind]:
+                    self.goes_on(name, answer)
+                    continue
+                self.results.check(name, answer[0] == 2 and SHORT[error] in answer[2] and answer[2].count(b"\n") == 1, str(answer))
+                self.is_kept(name, answer)
+
+    def never_finds_room(self, counts):
+        """Where no sync finds room from some on, the run ends, and tells it; what was committed is there."""
+        for n in range(1, counts["sync"] + 1, 5):
+            answer = self.run(fail=f"sync {n} {errno.ENOSPC} 1000000", spoil=1)
+            name = f"no sync finds room from {n} of {counts['sync']} on"
+            self.results.check(name, answer[0] == 2 and LINE.fullmatch(answer[2]), str(answer))
+            self.is_kept(name, answer)
+
+
 def faults(keeper, results, path):
     tried = Faults(keeper, results, path)
     counts, calls = tried.made()
-    written = sum(len(call.octets) for call in calls_of(tried.log.read_bytes()) if call.kind == "write")
+    written = sum(len(call.octets) for call in tried.calls() if call.kind == "write")
     whole = tried.run()
     results.check("a run without faults", whole[0] == 0 and not whole[2] and told_committed(whole[1]) == len(SENT), str(whole))
     tried.fails(counts)
     tried.is_short(counts, whole)
     tried.is_killed(calls)
     tried.is_full(written)
+    tried.finds_no_room(counts)
+    tried.never_finds_room(counts)
 
 
 # ---------------------------------------------------------------- folders
@@ -239,6 +288,8 @@ def stores(program, trial, results):
     for _ in wrong_stores(keeper, results, SEED):
         pass
     cuts(keeper, results, SEED, 1_500)
+    cuts(keeper, results, SEED, 1_500, is_short=True)
+    not_written_again(keeper, results, SEED)
     readings(keeper, results, SEED, 20)
     kills(keeper, program, results, SEED, 40)
     compactions(program, results, SEED)

@@ -127,6 +127,8 @@ class Expiries:
                 name = f"expiry: {kind} {n} of {counts[kind]} fails"
                 answer = self.run(fail=f"{kind} {n} {errno.EIO}")
                 self.results.check(name, answer[0] == 2 and answer[2].endswith(b"\n"), str(answer))
+                left = (self.store / "expire.archive").exists()
+                self.results.check(f"{name}: no draft is left", kind == "remove" or not left)
                 self.goes_on(name, answer[1])
         for n in range(1, sum(counts.values()) + 1):
             answer = self.run(kill=n)
@@ -177,12 +179,34 @@ class Expiries:
             self.results.check("it changes nothing", {**self.files, b"lock.compact": b""} == files_of(self.store))
 
     def is_damaged(self):
-        """A damaged segment that may have old records is told and stays."""
+        """A damaged segment that may have old records is told and stays as it is; a dry run tells it, too."""
         name = next(one for one in segments_of(self.files) if one.startswith(b"2026-11-24"))
-        store = put_folder(self.path / "damaged", {**self.files, name: self.files[name] + b"4"})
-        answer = self.program.run(["expire", str(store), "--before", BEFORE.decode()])
-        self.results.check("a damaged segment", answer[0] == 1 and answer[2].startswith(name + b" bad-frame "), str(answer))
-        self.results.check("it stays", (store / name.decode()).exists())
+        for kind, octets, what in ("no archive", self.files[name] + b"4", b" bad-frame "), ("empty", b"", b" digest"):
+            store = put_folder(self.path / f"damaged, {kind}", {**self.files, name: octets})
+            for more in ["--dry-run"], []:
+                answer = self.program.run(["expire", str(store), "--before", BEFORE.decode(), *more])
+                right = answer[0] == 1 and answer[2].startswith(name + what)
+                self.results.check(f"a damaged segment, {kind}, {more}", right, str(answer))
+                self.results.same(f"it stays, {kind}, {more}", (store / name.decode()).read_bytes(), octets)
+
+    def is_synced(self):
+        """The removals are brought to the disk: the folder is synced behind the last of them."""
+        self.run()
+        kinds = [call.kind for call in self.calls() if call.kind in KINDS]
+        self.results.check("removals are synced", "remove" in kinds and kinds[-1] == "names", str(kinds[-3:]))
+
+    def has_a_damaged_rest(self):
+        """A damaged file under the name of what is left of a segment is told, and both stay."""
+        name = next(one for one in segments_of(self.files) if line_of(one, self.files[one]) in expired(self.files, False)[0]
+                    and any(not is_old(record, False) for record in archive_read(self.files[one])[0]))
+        kept = [record for record in archive_read(self.files[name])[0] if not is_old(record, False)]
+        rest = segment_name(SEGMENT.fullmatch(name).group(1), archive_text(kept))
+        for octets in b"", b"x":
+            store = put_folder(self.path / f"damaged rest {len(octets)}", {name: self.files[name], rest: octets})
+            answer = self.program.run(["expire", str(store), "--before", BEFORE.decode()])
+            self.results.check("a damaged rest", answer[0] == 1 and answer[2].startswith(rest + b" "), str(answer))
+            left = {one: text for one, text in files_of(store).items() if one != b"lock.compact"}
+            self.results.same("both stay", left, {name: self.files[name], rest: octets})
 
     def is_locked(self):
         """One process joins or removes segments at a time."""
@@ -247,6 +271,8 @@ def expiries(program, results, seed, each=20):
         tried.is_cut(seed, each)
         tried.changes_nothing()
         tried.is_damaged()
+        tried.has_a_damaged_rest()
+        tried.is_synced()
         tried.is_locked()
         rounds_down(program, results, path)
         is_beside(program, results, path, seed)

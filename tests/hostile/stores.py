@@ -7,10 +7,11 @@ gives it, and its octets are those that `archive` makes of the same records.
 Power cuts: the calls of real runs on the disk are written down (tests/lib/trace.c), of runs that are killed and opened again
 too. From the log disks are built that a cut at any of these calls may leave (tests/lib/power_cut.py), and each is read,
 opened, given one record more, and read again after a checkpoint. From some of them the power is cut a second time, while
-they are opened.
+they are opened. The same of runs in which some syncs find no room, and lose what they were to bring to the disk.
 """
 import argparse
 import bisect
+import errno
 import os
 import select
 import shutil
@@ -195,21 +196,36 @@ class Traced:
         with open(self.log, "ab") as log:
             log.write(BEGIN)
         environment = self.keeper.tracing(self.path, self.log, **chosen)
-        status, _, notes = self.keeper.keep(self.path, sent, batch, checkpoint, environment)
+        status, output, notes = self.keeper.keep(self.path, sent, batch, checkpoint, environment)
+        # nothing is tried again while a store is opened
+        if "fail" in chosen and (status, output) == (2, b"") and b"No space left" in notes:
+            return
         if notes or status not in ([0, -9] if "kill" in chosen else [0]):
-            raise RuntimeError(f"status {status}, {notes}")
+            raise RuntimeError(f"status {status}, {notes}, {chosen}")
 
     def calls(self):
         return calls_of(self.log.read_bytes())
 
 
-def traced(keeper, folder, seed):
-    """Some runs on one folder, most of which are killed at a call."""
+def short_syncs(random):
+    """Some syncs that find no room, never as many at once as a run tries a call, and the octet that is then in the place of
+    those that are lost."""
+    faults = []
+    for kind, most in ("sync", 60), ("sync", 20), ("names", 20):
+        first = random.randint(2, most)
+        faults.append(f"{kind} {first} {errno.ENOSPC} {first + random.randrange(2)}")
+    return {"fail": ",".join(faults), "spoil": random.choice([0, 1, 32, 255])}
+
+
+def traced(keeper, folder, seed, is_short=False):
+    """Some runs on one folder, most of which are killed at a call; with syncs that find no room, if so wanted."""
     random = Random(repr(("traced", seed)))
     made = Traced(keeper, folder)
     for n in range(random.randint(1, 3)):
         sent = records(("cut", seed), n * 100, random.randint(2, 30), random.choice([10, 60, 600]))
         chosen = {"kill": random.randint(1, 60)} if random.random() < 0.6 else {}
+        if is_short:
+            chosen |= short_syncs(random)
         batch, checkpoint = random.choice([1, 2, 5, 50]), random.choice([0, 200, 800, 10 ** 9])
         made.run(sent, batch, checkpoint, read=random.choice([50, 300, 4_096]), **chosen)
     return made
@@ -307,19 +323,21 @@ class Cuts:
                     self.add(f"{name}, and again at call {i}", self.cut.left(disk), found | after, found | {AFTER})
 
 
-def cuts(keeper, results, seed, disks, each=12):
-    """Cuts the power until so many disks were opened; gives how many were."""
+def cuts(keeper, results, seed, disks, each=12, is_short=False):
+    """Cuts the power until so many disks were opened; gives how many were. The runs have syncs that find no room, if so
+    wanted."""
     opened = number = 0
     while opened < disks:
         with tempfile.TemporaryDirectory(dir=room()) as path:
             try:
-                made = traced(keeper, Path(path), (seed, number))
+                made = traced(keeper, Path(path), (seed, number), is_short)
             except RuntimeError as error:
                 results.check("a traced run", False, error)
                 return opened
             tried = Cuts(keeper, results, path, (seed, number), 0.25)
             for n, files, committed, received in disks_of(made.calls(), made.sessions, tried.cut, each):
-                tried.add(f"power cut of seed {seed}, run {number}, call {n}", files, committed, received)
+                tried.add(f"power cut of seed {seed}, run {number}{' with short syncs' * is_short}, call {n}", files, committed,
+                          received)
                 if opened + tried.opened >= disks:
                     break
             tried.open()
@@ -442,6 +460,43 @@ def wrong_stores(keeper, results, seed, most=4_000):
         yield name, seen
 
 
+def written_once(calls):
+    """What a sync that found no room was to bring to the disk is not written again."""
+    found, waiting, lost = [], {}, {}
+    for call in calls:
+        key = call.at, call.octets
+        if call.kind == "write" and key in lost.get(call.file, ()):
+            continue
+        if call.kind == "write":
+            waiting.setdefault(call.file, set()).add(key)
+        elif call.kind == "lost":
+            lost.setdefault(call.file, set()).update(waiting.pop(call.file, ()))
+        elif call.kind == "sync":
+            waiting.pop(call.file, None)
+            lost.pop(call.file, None)
+        found.append(call)
+    return found
+
+
+def not_written_again(keeper, results, seed):
+    """A store that does not write again what a sync had no room for is found wrong, and the right one is not. What is lost of a
+    batch that is not open yet is cut off, and the batch written again in any case."""
+    for sync in 4, 5:  # of the second batch: before its opening octet is written, and behind it
+        with tempfile.TemporaryDirectory(dir=room()) as path:
+            made = Traced(keeper, Path(path))
+            try:
+                made.run(records(("again", seed), 0, 12), 3, 10 ** 9, read=100, fail=f"sync {sync} {errno.ENOSPC}", spoil=32)
+            except RuntimeError as error:
+                results.check(f"a run whose sync {sync} finds no room", False, error)
+                continue
+            calls = made.calls()
+            seen = is_found(keeper, results, calls, made.sessions, ("again", seed), 4_000)
+            results.check(f"sync {sync} finds no room, and what is lost is written again: not found wrong", seen is None, str(seen))
+            if sync == 5:
+                seen = is_found(keeper, results, written_once(calls), made.sessions, ("again", seed), 4_000)
+                results.check(f"sync {sync} finds no room, and what is lost is not written again: found", seen, str(seen))
+
+
 def main(words):
     parser = argparse.ArgumentParser(prog="tests/run.py stores", description=__doc__,
                                      formatter_class=argparse.RawDescriptionHelpFormatter)
@@ -460,6 +515,10 @@ def main(words):
         start = time.monotonic()
         opened = cuts(keeper, results, chosen.seed, chosen.disks)
         print(f"{opened} disks after power cuts in {time.monotonic() - start:.0f} s", flush=True)
+        not_written_again(keeper, results, chosen.seed)
+        start = time.monotonic()
+        opened = cuts(keeper, results, chosen.seed, chosen.disks, is_short=True)
+        print(f"{opened} disks after power cuts of runs with syncs that find no room in {time.monotonic() - start:.0f} s", flush=True)
         readings(keeper, results, chosen.seed, chosen.rounds)
         start = time.monotonic()
         kills(keeper, program, results, chosen.seed, chosen.rounds)

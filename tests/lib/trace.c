@@ -4,7 +4,11 @@
 
      TRACE_FOLDER=PATH    the folder, as the program names it; its files alone are counted
      TRACE_LOG=FILE       where the calls are written down
-     TRACE_FAIL=KIND N E  the Nth call of a kind, from 1, fails with the error E and does nothing
+     TRACE_FAIL=KIND N E M  the Nth call of a kind, from 1, to the Mth fail with the error E and do nothing; the Nth alone
+                          where there is no M. More of them may follow, each behind a comma. KIND@NAME counts the calls
+                          on files whose names begin so alone
+     TRACE_SPOIL=O        at a sync of a file that fails so, what was written to the file since the last one is gone: where
+                          an octet was before there is that one again, elsewhere O. A system may drop what it could not write
      TRACE_FULL=N M       N octets are written, and then M calls that write fail with ENOSPC
      TRACE_SHORT=N        the Nth write takes at most one octet
      TRACE_DROP=KIND N M  of each M calls of a kind the Nth is left out, from 0, and answers as if it were done
@@ -17,7 +21,8 @@
    was told, or the new name of a rename. FILE is the number of the file (its inode), AT the offset of a write, the length
    after a cut or the octets that standard input gave, NAME the name in the folder, or `-`. `open` is a call that opens a
    file that is there, `told` a write on standard output, `given` a read of standard input. A call that failed is not
-   written down, but a sync that failed is, as `lost`. A folder in the folder has a name that ends in `/`.
+   written down, but a sync that failed is, as `lost`, and what is spoiled is as writes. A folder in the folder has a name that
+   ends in `/`.
 
    Build: gcc -shared -fPIC -O1 -o trace.so trace.c -ldl */
 #define _GNU_SOURCE
@@ -109,14 +114,38 @@ static void keep(int fd, const char *name) {
 
 enum { GOES_ON, FAILS, IS_LEFT_OUT, IS_KILLED };
 
-/* what becomes of the next call of a kind */
-static int fate(int kind) {
+/* whether a word, KIND or KIND@NAME, means calls of a kind on a file of this name */
+static int means(const char *word, int kind, const char *name) {
+  size_t size = strlen(KIND_NAMES[kind]);
+  if (strncmp(word, KIND_NAMES[kind], size) != 0) return 0;
+  return word[size] == 0 || (word[size] == '@' && strncmp(name, word + size + 1, strlen(word + size + 1)) == 0);
+}
+
+/* the error with which a call fails, or 0; it is counted among those that each fault means */
+static int fault_of(int kind, const char *name) {
+  enum { FAULTS = 16 };
+  static unsigned long counts[FAULTS];
+  const char *text = getenv("TRACE_FAIL");
+  int found = 0;
+  for (int i = 0; text && i < FAULTS; i++, text = strchr(text, ',') ? strchr(text, ',') + 1 : NULL) {
+    unsigned long first = 0, last = 0;
+    char word[64];
+    int error = 0, read = sscanf(text, "%63s %lu %d %lu", word, &first, &error, &last);
+    if (read < 3 || !means(word, kind, name)) continue;
+    counts[i]++;
+    if (first <= counts[i] && counts[i] <= (read > 3 ? last : first)) found = error;
+  }
+  return found;
+}
+
+/* what becomes of the next call of a kind, on a file of this name */
+static int fate(int kind, const char *name) {
   unsigned long n = ++made[kind], number = 0, of = 0;
   char word[16];
-  int error = 0;
-  const char *text = getenv("TRACE_FAIL");
-  all++;
-  if (text && sscanf(text, "%15s %lu %d", word, &number, &error) == 3 && strcmp(word, KIND_NAMES[kind]) == 0 && n == number) {
+  int error = fault_of(kind, name);
+  const char *text = getenv("TRACE_KILL");
+  if (text && strtoul(text, NULL, 10) == ++all) return IS_KILLED;
+  if (error) {
     errno = error;
     return FAILS;
   }
@@ -124,14 +153,57 @@ static int fate(int kind) {
   if (text && sscanf(text, "%15s %lu %lu", word, &number, &of) == 3 && strcmp(word, KIND_NAMES[kind]) == 0 && of
       && (n - 1) % of == number)
     return IS_LEFT_OUT;
-  text = getenv("TRACE_KILL");
-  if (text && strtoul(text, NULL, 10) == all) return IS_KILLED;
   return GOES_ON;
 }
 
 static void end(void) {
   kill(getpid(), SIGKILL);
   for (;;) pause();
+}
+
+/* what was written to a file since its last sync: where, and what was there before */
+struct piece {
+  struct piece *before;
+  unsigned long file;
+  off_t at;
+  size_t size, old_size;
+  unsigned char old[];
+};
+static struct piece *pieces;
+
+/* octets of a file are about to be written */
+static void keep_old(int fd, off_t at, size_t size) {
+  if (!getenv("TRACE_SPOIL")) return;
+  struct piece *one = malloc(sizeof *one + size);
+  ssize_t n = pread(fd, one->old, size, at);
+  *one = (struct piece){pieces, file_of(fd), at, size, n > 0 ? (size_t)n : 0};
+  pieces = one;
+}
+
+/* puts back what was in a piece before it was written, as far as the file reaches */
+static void spoil_piece(int fd, const char *name, const struct piece *one) {
+  struct stat seen;
+  if (fstat(fd, &seen) != 0 || seen.st_size <= one->at) return;
+  size_t size = one->size;
+  if ((off_t)size > seen.st_size - one->at) size = (size_t)(seen.st_size - one->at);
+  unsigned char *octets = malloc(size ? size : 1);
+  memset(octets, (int)strtoul(getenv("TRACE_SPOIL"), NULL, 10), size);
+  memcpy(octets, one->old, one->old_size < size ? one->old_size : size);
+  if (pwrite(fd, octets, size, one->at) != (ssize_t)size) _exit(99);
+  note("write", one->file, (unsigned long)one->at, name, octets, size);
+  free(octets);
+}
+
+/* all that was written to a file is on the disk, or gone; or there is another file of its number */
+static void settle(unsigned long file, int fd, const char *spoiled) {
+  struct piece **place = &pieces;
+  while (*place) {
+    struct piece *one = *place;
+    if (one->file != file) { place = &one->before; continue; }
+    if (spoiled) spoil_piece(fd, spoiled, one);
+    *place = one->before;
+    free(one);
+  }
 }
 
 typedef int opening(const char *, int, ...);
@@ -145,12 +217,13 @@ static int opened(opening *next, const char *path, int flags, mode_t mode) {
     creates = stat(path, &seen) != 0;
   }
   if (creates) {
-    int what = fate(CREATE);
+    int what = fate(CREATE, name);
     if (what == FAILS) return -1;
     if (what == IS_KILLED) end();
   }
   int fd = next(path, flags, mode);
   keep(fd, fd >= 0 ? name : NULL);
+  if (fd >= 0 && creates) settle(file_of(fd), fd, NULL);
   if (fd >= 0 && !is_folder(name)) note(creates ? "create" : "open", file_of(fd), 0, name, "", 0);
   return fd;
 }
@@ -217,7 +290,7 @@ ssize_t write(int fd, const void *octets, size_t size) {
     note("told", 0, 0, "-", octets, size); /* before it is: what is told later is promised no less */
     return put(fd, octets, size);
   }
-  int what = fate(WRITE);
+  int what = fate(WRITE, name);
   if (what == FAILS) return -1;
   ssize_t room = room_for(size);
   if (room < 0) return -1;
@@ -226,6 +299,7 @@ ssize_t write(int fd, const void *octets, size_t size) {
   if (text && strtoul(text, NULL, 10) == made[WRITE] && size > 1) size = 1;
   if (what == IS_KILLED) size /= 2;
   off_t at = lseek(fd, 0, SEEK_CUR);
+  keep_old(fd, at, size);
   ssize_t n = put(fd, octets, size);
   if (n >= 0) {
     written += (size_t)n;
@@ -239,7 +313,7 @@ static int cut(const char *called, int fd, off_t size) {
   int (*next)(int, off_t) = (int (*)(int, off_t))next_of(called);
   const char *name = name_of(fd);
   if (!name) return next(fd, size);
-  int what = fate(CUT);
+  int what = fate(CUT, name);
   if (what == FAILS) return -1;
   if (what == IS_KILLED) end();
   int answer = next(fd, size);
@@ -255,11 +329,14 @@ static int synced(const char *called, int fd) {
   int (*next)(int) = (int (*)(int))next_of(called);
   const char *name = name_of(fd);
   if (!name) return next(fd);
-  int what = fate(is_folder(name) ? NAMES : SYNC);
+  int what = fate(is_folder(name) ? NAMES : SYNC, name);
   if (what == IS_LEFT_OUT) return 0;
   if (what == IS_KILLED) end();
-  int answer = what == FAILS ? -1 : next(fd);
+  int answer = what == FAILS ? -1 : next(fd), error = errno;
   note(answer ? "lost" : is_folder(name) ? "names" : "sync", file_of(fd), 0, *name ? name : "-", "", 0);
+  if (answer == 0) settle(file_of(fd), fd, NULL);
+  else if (what == FAILS && getenv("TRACE_SPOIL") && !is_folder(name)) settle(file_of(fd), fd, name);
+  errno = error;
   return answer;
 }
 
@@ -272,7 +349,7 @@ int rename(const char *from, const char *to) {
   if (!next) next = (int (*)(const char *, const char *))next_of("rename");
   const char *old = within(from), *new = within(to);
   if (!old || !new) return next(from, to);
-  int what = fate(RENAME);
+  int what = fate(RENAME, old);
   if (what == FAILS) return -1;
   if (what == IS_KILLED) end();
   int answer = next(from, to);
@@ -288,7 +365,7 @@ int unlink(const char *path) {
   const char *name = within(path);
   struct stat seen;
   if (!name || stat(path, &seen) != 0) return next(path);
-  int what = fate(REMOVE);
+  int what = fate(REMOVE, name);
   if (what == FAILS) return -1;
   if (what == IS_KILLED) end();
   int answer = next(path);

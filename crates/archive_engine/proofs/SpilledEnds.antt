@@ -323,13 +323,16 @@ ran_finished told here way framing old new status known p = record {
 
 -- ---- before anything was read
 
--- the spill failed, and that was told
-pub none_spilled : (told : Type 0) (way : FrameReading) (framing : InputFraming) (old : Devices) (d : OutputState)
-    (status : ℕ) → Reports (spill_line Spill) (spill_status Spill) old.diagnostics d status
+-- no run could be made, and that was told
+none_made : (told : Type 0) (way : FrameReading) (framing : InputFraming) (old : Devices) (d : OutputState)
+    (stop : SpillStop) (status : ℕ)
+    → ((line : List ℕ) (new : Devices) → StopsShort told way framing line old new
+    → IsSpillStopped stop told way framing line old new)
+    → Reports (spill_line stop) (spill_status stop) old.diagnostics d status
     → RanSpilled told way framing old (flushed_to old old.output d) status
-none_spilled told way framing old d status t =
-    told_line told told way framing old old d Spill status (λ k. k) (record {
-      outcome = (
+none_made told way framing old d stop status stops t =
+    told_line told told way framing old old d stop status (λ k. k) (record {
+      outcome = stops [] old (
         refl,
         inl (record {
           given = [];
@@ -348,7 +351,7 @@ none_spilled told way framing old d status t =
       };
     })
     refl
-    (λ w. (
+    (λ w. stops (spill_line stop) (flushed_to old old.output d) (
       refl,
       inl (record {
         given = [];
@@ -360,6 +363,20 @@ none_spilled told way framing old d status t =
       }),
     ))
     t
+
+-- the spill failed
+pub none_spilled : (told : Type 0) (way : FrameReading) (framing : InputFraming) (old : Devices) (d : OutputState)
+    (status : ℕ) → Reports (spill_line Spill) (spill_status Spill) old.diagnostics d status
+    → RanSpilled told way framing old (flushed_to old old.output d) status
+none_spilled told way framing old d status t =
+    none_made told way framing old d Spill status (λ line new stops. stops) t
+
+-- memory ran out
+pub none_for_memory : (told : Type 0) (way : FrameReading) (framing : InputFraming) (old : Devices) (d : OutputState)
+    (status : ℕ) → Reports (spill_line (Run Memory)) (spill_status (Run Memory)) old.diagnostics d status
+    → RanSpilled told way framing old (flushed_to old old.output d) status
+none_for_memory told way framing old d status t =
+    none_made told way framing old d (Run Memory) status (λ line new stops. stops) t
 
 -- ---- a run that needs no spill
 

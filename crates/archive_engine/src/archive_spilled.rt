@@ -237,6 +237,11 @@ fn close<N: Output>(stop: SpillStop, diagnostics: &mut N) -> u8
     }
 }
 
+// Whether no run was made for want of memory.
+fn lacks_memory(made: &Result<(), SpillFault>) -> bool {
+    matches!(made, Err(SpillFault::Memory))
+}
+
 /// Writes the records of the rest of the input as an archive, by way of a set that may be larger
 /// than memory and holds nothing yet. The lines and the status are those of
 /// [`archive_input`](crate::archive_input), whatever the set's room; so is the output, if the runs
@@ -261,7 +266,11 @@ pub fn archive_spilled_input<P: Spill + Drop, R: Input, W: Output, N: Output>(
         (devices (R.state input.new) (W.state output.new) (N.state diagnostics.new))
         result }
 {
-    if set.check_spill().is_err() {
+    let made = set.check_spill();
+    if lacks_memory(&made) {
+        return report(diagnostics, b"want of memory\n", NO_MEMORY);
+    }
+    if made.is_err() {
         return report(diagnostics, b"spill fault\n", FAULT);
     }
     let InputFraming::Stream(framing) = input_framing else {

@@ -266,7 +266,7 @@ impl Spill for Shortened {
 
     ghost tells = { λ _. ⊥ };
 
-    fn make(&mut self) -> Result<Fuse<ToWrite<Vec<u8>>>, DeviceFault> {
+    fn make(&mut self) -> Result<Fuse<ToWrite<Vec<u8>>>, SpillFault> {
         self.spill.make()
     }
 
@@ -340,7 +340,7 @@ fn a_folder_that_is_not_there_is_told(rt: HostRuntime) -> Result<(), Fail> {
     let path = new_folder(&rt, "missing")?;
     remove(&rt, &path)?;
     let mut spill = FolderSpill::new(&rt, path.as_str())?;
-    assert_eq!(rt; spill.make().err(), Some(DeviceFault));
+    assert_eq!(rt; spill.make().err(), Some(SpillFault::Spill));
     let (answer, _) = filled(alloc, set_over(alloc, spill, SMALL))?;
     assert_eq!(rt; answer, Err(SpillFault::Spill));
     Ok(())

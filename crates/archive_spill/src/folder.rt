@@ -2,6 +2,7 @@
 
 ghost use Rattle.std.specs.Prelude.{◌≤◌, IfOk, length};
 
+use crate::fault::SpillFault;
 use crate::spill::Spill;
 use octet_devices::{DeviceFault, FromRead, ToWrite};
 use std::alloc::Global;
@@ -103,10 +104,11 @@ where
 
     ghost tells = { λ _. ⊥ };
 
-    fn make(&mut self) -> Result<ToWrite<Uninterrupted<R::File>>, DeviceFault> {
+    fn make(&mut self) -> Result<ToWrite<Uninterrupted<R::File>>, SpillFault> {
         match self.create() {
             Ok(file) => Ok(ToWrite::new(Uninterrupted { file })),
-            Err(_) => Err(DeviceFault),
+            Err(error) if error.kind() == ErrorKind::OutOfMemory => Err(SpillFault::Memory),
+            Err(_) => Err(SpillFault::Spill),
         }
     }
 

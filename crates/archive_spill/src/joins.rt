@@ -34,16 +34,14 @@ fn fault_of(fault: JoinFault, told: SpillFault) -> SpillFault
 /// Writes the archive of pages as a run.
 ///
 /// # Errors
-/// `Spill`: the run could not be made or written.
+/// `Spill`: the run could not be made or written; `Memory`.
 pub fn write_run<P: Spill>(spill: &mut P, pages: &PagedArchive) -> Result<P::Run, SpillFault>
     ensures written { P.tells spill.old → IfOk result (λ run.
         IsRunOf (P.Run.state run) (entries_in pages.now)) }
     ensures tells { P.tells spill.old → P.tells spill.new }
     ensures fault { IsOfRuns result }
 {
-    let Ok(mut written) = spill.make() else {
-        return Err(SpillFault::Spill);
-    };
+    let mut written = spill.make()?;
     if pages.write(&mut written).is_err() {
         return Err(SpillFault::Spill);
     }
@@ -69,9 +67,7 @@ pub fn join_runs<P: Spill>(
     ensures size { length runs.new ≡ length runs.old }
     ensures fault { IsOfRuns result }
 {
-    let Ok(mut written) = spill.make() else {
-        return Err(SpillFault::Spill);
-    };
+    let mut written = spill.make()?;
     if let Err(fault) = join_streams(alloc, &Union, runs, &mut written) {
         return Err(fault_of(fault, SpillFault::Spill));
     }

@@ -2,6 +2,7 @@
 
 ghost use Rattle.std.specs.Prelude.{◌≡◌, ⊤};
 
+use crate::fault::SpillFault;
 use crate::spill::Spill;
 use octet_devices::{DeviceFault, FromRead, Fuse, ToWrite};
 use std::alloc::Global;
@@ -72,10 +73,10 @@ impl Spill for MemorySpill {
 
     ghost tells = { λ _. ⊤ };
 
-    fn make(&mut self) -> Result<Fuse<ToWrite<Vec<u8>>>, DeviceFault> {
+    fn make(&mut self) -> Result<Fuse<ToWrite<Vec<u8>>>, SpillFault> {
         self.made = self.made.saturating_add(1);
         let (octets, calls) = match self.failure() {
-            Some(SpillCall::Make) => return Err(DeviceFault),
+            Some(SpillCall::Make) => return Err(SpillFault::Spill),
             Some(SpillCall::Write { calls }) => (u64::MAX, calls),
             Some(SpillCall::Full { octets }) => (octets, u64::MAX),
             _ => (u64::MAX, u64::MAX),

@@ -1,7 +1,9 @@
 //! Where runs go.
 
 ghost use Rattle.std.specs.Prelude.{◌≡◌, Some, [], IfOk};
+ghost use Rattle.archive_spill.specs.Writing.{IsOfRuns};
 
+use crate::fault::SpillFault;
 use octet_devices::{DeviceFault, Input, Output};
 
 /// Where the runs of a set go that does not fit in memory. A run is written at its end, and then
@@ -19,10 +21,11 @@ pub trait Spill {
     /// Makes a run of no octets.
     ///
     /// # Errors
-    /// The run could not be made.
-    fn make(&mut self) -> Result<Self::Written, DeviceFault>
+    /// `Spill`: the run could not be made; `Memory`.
+    fn make(&mut self) -> Result<Self::Written, SpillFault>
         ensures empty { tells self.old →
             IfOk result (λ run. (Self.Written.state run).taken ≡ Some []) }
+        ensures fault { IsOfRuns result }
         ensures tells { tells self.old → tells self.new };
 
     /// Goes back to the beginning of a run, to read what was written.

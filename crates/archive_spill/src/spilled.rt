@@ -131,19 +131,17 @@ impl<P: Spill + Drop> SpilledArchive<P, P::Run> {
     /// Makes a run and drops it, to tell whether there can be one.
     ///
     /// # Errors
-    /// `Spill`: there cannot.
+    /// `Spill`: there cannot; `Memory`.
     pub fn check_spill(&mut self) -> Result<(), SpillFault>
         ensures same { (es : List Entry) → Holds P.tells P.Run.state self.old es
             → Holds P.tells P.Run.state self.new es }
-        ensures fault { OnErr result (IsErrOf result SpillFault.Spill) }
+        ensures fault { IsOfRuns result }
         ensures lost { IsLost self.old → IsLost self.new }
         ensures room { IsInRoom self.old → IsInRoom self.new }
         ensures limit { limit_of self.new ≡ limit_of self.old }
     {
-        match self.spill.make() {
-            Ok(_run) => Ok(()),
-            Err(_) => Err(SpillFault::Spill),
-        }
+        let _run = self.spill.make()?;
+        Ok(())
     }
 
     /// How many runs are out.

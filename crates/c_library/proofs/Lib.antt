@@ -9,3 +9,5 @@ pub mod Placing
 pub mod Putting
 pub mod Heading
 pub mod Showing
+pub mod Objects
+pub mod Rooting

@@ -3,9 +3,11 @@ pub mod Answers
 pub mod Canonicals
 pub mod Legacies
 pub mod Unions
+pub mod Roots
 pub mod Frames
 pub mod Spans
 pub mod Parts
 pub mod Items
+pub mod Jsons
 pub mod Passing
 pub mod PartSpans

@@ -12,7 +12,7 @@ use octet_devices::ToWrite;
 use std::alloc::Global;
 
 /// The archive of a text on this side.
-fn archive_of(alloc: Global, side: u32, text: &[u8]) -> Result<VecArchive, SyslogboxFault>
+pub fn archive_of(alloc: Global, side: u32, text: &[u8]) -> Result<VecArchive, SyslogboxFault>
     ensures { MatchResult result (λ archive. IsArchiveOf archive.list text.now)
         (IsNoArchive side text.now) }
 {

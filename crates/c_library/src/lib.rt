@@ -15,11 +15,13 @@ mod frame;
 mod layout;
 mod legacy;
 mod numbers;
+mod object;
 mod param;
 mod part;
 mod part_spans;
 mod parts;
 mod pass;
+mod root;
 mod span;
 #[cfg(test)]
 mod tests;

@@ -254,7 +254,8 @@ with_changers a =
 -- the commands on a store
 abbrev pub with_store_commands : App → App
 with_store_commands a =
-    with_changers (with_subcommand (with_subcommand a read_app.top) (folder_app (codes "verify")).top)
+    with_changers (with_subcommand (with_subcommand (with_subcommand a read_app.top) (folder_app (codes "verify")).top)
+    (folder_app (codes "stat")).top)
 
 -- the commands that receive records from sockets
 abbrev pub with_receivers : App → App

@@ -71,6 +71,7 @@ pub data Asked : Type 0 where
   -- folders
   Read : Text → InRange → Asked
   Verify : Text → Asked
+  Stat : Text → Asked
   Compact : Text → Asked
   Add : Text → Asked
   Expire : Text → ExpireWords → Asked
@@ -111,6 +112,7 @@ asked_by (request.Send options) = Send (texts_of options)
 asked_by (request.Collect words) = Collect words
 asked_by (request.Read dir range) = Read dir.now range
 asked_by (request.Verify dir) = Verify dir.now
+asked_by (request.Stat dir) = Stat dir.now
 asked_by (request.Compact dir) = Compact dir.now
 asked_by (request.Add dir) = Add dir.now
 asked_by (request.Expire dir words) = Expire dir.now words
@@ -292,6 +294,10 @@ read_read rows =
 abbrev pub read_verify : List Row → Option Asked
 read_verify rows = option_map (λ dir. Verify dir) (first_of (codes "DIR") rows)
 
+-- `stat` with its folder
+abbrev pub read_stat : List Row → Option Asked
+read_stat rows = option_map (λ dir. Stat dir) (first_of (codes "DIR") rows)
+
 -- `compact` with its folder
 abbrev pub read_compact : List Row → Option Asked
 read_compact rows = option_map (λ dir. Compact dir) (first_of (codes "DIR") rows)
@@ -310,9 +316,10 @@ abbrev pub read_store : Text → List Row → Option Asked
 read_store name rows =
     if bytes_eq name (codes "read") then read_read rows
     else (if bytes_eq name (codes "verify") then read_verify rows
+    else (if bytes_eq name (codes "stat") then read_stat rows
     else (if bytes_eq name (codes "compact") then read_compact rows
     else (if bytes_eq name (codes "add") then read_add rows
-    else (if bytes_eq name (codes "expire") then read_expire rows else None))))
+    else (if bytes_eq name (codes "expire") then read_expire rows else None)))))
 
 -- `serve` with its values
 abbrev pub read_serve : List Row → Option Asked

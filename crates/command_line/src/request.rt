@@ -130,6 +130,10 @@ pub enum Request<'a> {
     Verify {
         dir: &'a str,
     },
+    /// `stat`: what the files of a store have, one line each.
+    Stat {
+        dir: &'a str,
+    },
     /// `compact`: the segments of each day of a store that has many are joined.
     Compact {
         dir: &'a str,

@@ -1,9 +1,10 @@
-//! The words of the commands on a store: `read`, `verify`, `compact`, `add` and `expire`.
+//! The words of the commands on a store: `read`, `verify`, `stat`, `compact`, `add` and `expire`.
 
 ghost use Rattle.std.specs.Prelude.{◌≡◌, option_map};
 ghost use Rattle.std.specs.Result.{result_ok};
 ghost use Rattle.clap.specs.Words.{found_of, rows_of};
-ghost use Rattle.command_line.specs.Requests.{asked_by, read_add, read_compact, read_read, read_store, read_verify};
+ghost use Rattle.command_line.specs.Requests.{asked_by, read_add, read_compact, read_read, read_stat, read_store};
+ghost use Rattle.command_line.specs.Requests.{read_verify};
 ghost use Rattle.command_line.specs.Ranges.{range_in};
 
 use crate::expire_words::read_expire_words;
@@ -48,6 +49,14 @@ fn read_verify_words<'a>(matches: &ArgMatches<'a>) -> Result<Request<'a>, Refusa
     Ok(Request::Verify { dir })
 }
 
+// The request of `stat`.
+fn read_stat_words<'a>(matches: &ArgMatches<'a>) -> Result<Request<'a>, Refusal<'a>>
+    ensures { option_map asked_by (result_ok result) ≡ read_stat (rows_of (found_of matches.now)) }
+{
+    let dir = needed(matches, &DIR)?;
+    Ok(Request::Stat { dir })
+}
+
 // The request of `compact`.
 fn read_compact_words<'a>(matches: &ArgMatches<'a>) -> Result<Request<'a>, Refusal<'a>>
     ensures { option_map asked_by (result_ok result) ≡ read_compact (rows_of (found_of matches.now)) }
@@ -75,6 +84,7 @@ pub fn read_store_words<'a>(
     match name {
         "read" => read_read_words(matches),
         "verify" => read_verify_words(matches),
+        "stat" => read_stat_words(matches),
         "compact" => read_compact_words(matches),
         "add" => read_add_words(matches),
         "expire" => read_expire_words(matches),

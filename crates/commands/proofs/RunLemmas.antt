@@ -28,7 +28,7 @@ use Rattle.archive_engine.proofs.ArchiveLemmas.{archive_laws}
 use Rattle.archive_sets.specs.declared.fault.SelectFault.TheVariants.{Memory as select_Memory}
 use Rattle.command_line.specs.Requests.{Add, Archive, Asked, Check, Collect, Common, Compact, Confirm, Convert, Count, Diff}
 use Rattle.command_line.specs.Requests.{Digest, Merge, Migrate, Minus, Prove, Read, Root, Select, Send, Serve, Show}
-use Rattle.command_line.specs.Requests.{Expire, SpillArchive, Union, Verify}
+use Rattle.command_line.specs.Requests.{Expire, SpillArchive, Stat, Union, Verify}
 use Rattle.command_line.specs.Requests.{IsUsage, frames_asked, frames_by}
 use Rattle.command_line.specs.declared.request.FrameCommand.{FrameCommand}
 use Rattle.command_line.specs.declared.request.FrameCommand.TheVariants as frames
@@ -158,6 +158,7 @@ unstarted_as (Send texts) stored old d status t = record {
 unstarted_as (SpillArchive way framing dir memory) stored old d status t = inl (refl, t)
 unstarted_as (Read dir range) stored old d status t = inl (refl, t)
 unstarted_as (Verify dir) stored old d status t = inl (refl, t)
+unstarted_as (Stat dir) stored old d status t = inl (refl, t)
 unstarted_as (Compact dir) stored old d status t = inl (refl, t)
 unstarted_as (Add dir) stored old d status t = inl (refl, t)
 unstarted_as (Expire dir words) stored old d status t = inl (refl, t)

@@ -21,7 +21,7 @@ use Rattle.archive_sets.specs.declared.conditions.Conditions.{Conditions}
 use Rattle.condition_words.specs.Conditions.{ConditionsAsked, conditions_asked}
 use Rattle.command_line.specs.Requests.{Add, Archive, Asked, Check, Collect, Common, Compact, Confirm, Convert, Count}
 use Rattle.command_line.specs.Requests.{Diff, Digest, Expire, Merge, Migrate, Minus, Prove, Read, Root, Select, Send}
-use Rattle.command_line.specs.Requests.{Serve, Show, SpillArchive, Union, Verify}
+use Rattle.command_line.specs.Requests.{Serve, Show, SpillArchive, Stat, Union, Verify}
 use Rattle.command_line.specs.declared.words.WordsFault.{WordsFault}
 use Rattle.command_line.specs.declared.words.WordsFault.TheVariants.{Usage, Memory as OutOfMemory}
 use Rattle.send_engine.specs.Sending.{RanSend}
@@ -122,6 +122,8 @@ RanAs (Read dir range) stored old new status =
     RanWithout (codes "store fault\n") old.output new.output old.diagnostics new.diagnostics status
 RanAs (Verify dir) stored old new status =
     RanWithout (codes "store fault\n") old.output new.output old.diagnostics new.diagnostics status
+RanAs (Stat dir) stored old new status =
+    RanWithout (codes "store fault\n") old.output new.output old.diagnostics new.diagnostics status
 RanAs (Compact dir) stored old new status =
     RanWithout (codes "store fault\n") old.output new.output old.diagnostics new.diagnostics status
 RanAs (Add dir) stored old new status =
@@ -155,6 +157,7 @@ ReadsInput (Send texts) = ⊥
 ReadsInput (SpillArchive way framing dir memory) = ⊥
 ReadsInput (Read dir range) = ⊥
 ReadsInput (Verify dir) = ⊥
+ReadsInput (Stat dir) = ⊥
 ReadsInput (Compact dir) = ⊥
 ReadsInput (Add dir) = ⊥
 ReadsInput (Expire dir words) = ⊥

@@ -247,6 +247,7 @@ pub fn run_request<R: Input, W: Output, N: Output, F: Files>(
         Request::SpillArchive { .. } => report(diagnostics, b"spill fault\n", FAULT),
         Request::Read { .. } => report(diagnostics, b"store fault\n", FAULT),
         Request::Verify { .. } => report(diagnostics, b"store fault\n", FAULT),
+        Request::Stat { .. } => report(diagnostics, b"store fault\n", FAULT),
         Request::Compact { .. } => report(diagnostics, b"store fault\n", FAULT),
         Request::Add { .. } => report(diagnostics, b"store fault\n", FAULT),
         Request::Expire { .. } => report(diagnostics, b"store fault\n", FAULT),

@@ -4,7 +4,7 @@ use Rattle.std.specs.Prelude.{take, drop, Some, None, IsSome, IsNone, IsSomeAnd,
 use Rattle.disk.specs.Files.{File, settled, appended, appended_in_part, overwritten, cut_to}
 use Rattle.disk.specs.States.{Entry, State, retired, kept}
 use Rattle.disk.specs.declared.fault.DiskFault.{DiskFault}
-use Rattle.disk.specs.declared.fault.DiskFault.TheVariants.{Missing, Exists, Full, Failed}
+use Rattle.disk.specs.declared.fault.DiskFault.TheVariants.{Missing, Exists, Full, Failed, Memory}
 
 pub record IsUnchanged (old new : State) : Type 0 where
   pub entries : (name : List ℕ) → new.entries name ≡ old.entries name
@@ -51,6 +51,10 @@ Cuts old new name len result = MatchResult result
 pub record Loses (old new : State) : Type 0 where
   pub entries : (name : List ℕ) → new.entries name ≡ old.entries name
   pub lost : new.lost ≡ true
+
+-- where there was no room for it, on the disk or in memory, a call has changed nothing
+abbrev pub KeepsIfShort : {T : Type 0} → State → State → Result T DiskFault → Type 0
+KeepsIfShort old new result = IsErrOf result Full ⊎ IsErrOf result Memory → IsUnchanged old new
 
 -- All of a file is on the disk, unless a sync has failed before.
 abbrev pub Syncs : {T : Type 0} → State → State → List ℕ → Result T DiskFault → Type 0

@@ -2,7 +2,7 @@
 ghost use Rattle.std.specs.Prelude.{◌≤◌, ℕ, IfOk, length};
 ghost use Rattle.disk.specs.States.{State};
 ghost use Rattle.disk.specs.Calls.{Appends, AreNames, Creates, Cuts, HasCause, IsOfFolder, IsUnchanged};
-ghost use Rattle.disk.specs.Calls.{Overwrites, Reads, Removes, Renames, Syncs, SyncsNames};
+ghost use Rattle.disk.specs.Calls.{KeepsIfShort, Overwrites, Reads, Removes, Renames, Syncs, SyncsNames};
 
 use crate::{DiskFault, FileName};
 use std::alloc::Global;
@@ -66,9 +66,12 @@ pub trait Disk {
         ensures told { tells self.new → tells self.old }
         ensures cause { HasCause (has_failed self.old) (has_failed self.new) result };
 
-    /// Brings to the disk what a read of a file shows; `Missing` if there is no such file.
+    /// Brings to the disk what a read of a file shows; `Missing` if there is no such file. `Full` and
+    /// `Memory` have changed nothing: what a read showed it shows still, and a later call brings it to
+    /// the disk. `Failed` may have lost it.
     fn sync(&mut self, name: &FileName) -> Result<(), DiskFault>
         ensures done { tells self.new → Syncs (state self.old) (state self.new) name.now result }
+        ensures short { tells self.new → KeepsIfShort (state self.old) (state self.new) result }
         ensures told { tells self.new → tells self.old }
         ensures cause { HasCause (has_failed self.old) (has_failed self.new) result };
 
@@ -86,9 +89,11 @@ pub trait Disk {
         ensures told { tells self.new → tells self.old }
         ensures cause { HasCause (has_failed self.old) (has_failed self.new) result };
 
-    /// Brings the names of the folder to the disk. It fails with the disk's fault.
+    /// Brings the names of the folder to the disk. It fails with the disk's fault, or for lack of memory;
+    /// `Full` and `Memory` have changed nothing.
     fn sync_names(&mut self) -> Result<(), DiskFault>
         ensures done { tells self.new → SyncsNames (state self.old) (state self.new) result }
+        ensures short { tells self.new → KeepsIfShort (state self.old) (state self.new) result }
         ensures of_folder { tells self.new → IsOfFolder result }
         ensures told { tells self.new → tells self.old }
         ensures cause { HasCause (has_failed self.old) (has_failed self.new) result };

@@ -5,8 +5,9 @@
 //! made. A write harms no octet beside it that is on the disk, even if a crash tears it: a drive
 //! that loses a whole sector when it writes a part of it is not covered. A name that was made,
 //! replaced or removed since the last sync of the folder may be as it was before, each name on its
-//! own. Once a sync has failed, no later sync promises anything until the machine has been
-//! restarted.
+//! own. A sync that finds no room, on the disk or in memory, has changed nothing, and may be tried
+//! again. Once one has failed for anything else, no later sync promises anything until the machine has
+//! been restarted.
 //!
 //! A crash at any moment of a run is the same run over a disk that fails at every call from that
 //! moment on and changes nothing ([`Fuse`] is one): the run then ends with the state of the moment.

@@ -1,6 +1,6 @@
 //! A disk in memory.
 ghost use Rattle.std.specs.Prelude.{◌≡◌, ◌↔◌, ◌<◌, [], length, slice_set, take};
-ghost use Rattle.std.specs.Prelude.{None, true, IfNone, IfOk, IfSome, IsSome, IsTrue, OnErr, OnOk};
+ghost use Rattle.std.specs.Prelude.{None, true, IfNone, IfOk, IfSome, IsErrOf, IsSome, IsTrue, OnErr, OnOk};
 ghost use Rattle.disk.specs.Files.{appended, cut_to, overwritten, settled};
 ghost use Rattle.disk.specs.States.{kept, retired, MayBe, NameMayLeave};
 ghost use Rattle.std.specs.Option.{option_map};
@@ -124,6 +124,7 @@ fn sync_in(entry: &mut MemoryEntry) -> Result<(), DiskFault>
     ensures done { ChangesFileOf (entry_of entry.old) (entry_of entry.new)
         (λ file. settled file.shown) result }
     ensures sound { NeverFails result }
+    ensures memory { ¬ (IsErrOf result DiskFault.Memory) }
 {
     let Some(file) = &mut entry.now else {
         return Err(DiskFault::Missing);

@@ -118,9 +118,9 @@ impl DurableStore {
         self.store.commit(alloc, disk)
     }
 
-    /// Opens the store again after a call has failed for a full disk or for lack of memory. What
-    /// was added is still there, in memory and among what waits. Once a sync has failed, it can
-    /// promise nothing until the machine is restarted.
+    /// Opens the store again after a call has failed for a full disk or for lack of memory, a sync among
+    /// them. What was added is still there, in memory and among what waits. Once a sync has failed for
+    /// anything else, it can promise nothing until the machine is restarted.
     ///
     /// # Errors
     /// Those of `open`. The store is broken then, and may be opened again as it is.

@@ -1,5 +1,5 @@
 //! The disk over a folder.
-ghost use Rattle.std.specs.Prelude.{◌≡◌, ◌↔◌, IfErr, IfOk, IsErr, IsErrAnd, IsNone, IsSome, IsTrue, option_copied};
+ghost use Rattle.std.specs.Prelude.{◌≡◌, ◌≢◌, ◌↔◌, IfErr, IfOk, IsErr, IsErrAnd, IsNone, IsSome, IsTrue, option_copied};
 ghost use Rattle.disk.specs.Calls.{HasCause};
 ghost use Rattle.folder_disk.specs.Faults.{IsTold};
 ghost use Rattle.folder_disk.specs.Folders.{HasFailedSync, untold, last_error_of};
@@ -31,6 +31,9 @@ pub struct FolderDisk<R: Files> {
     files: OpenFiles<R>,
     last_error: Option<FileError>,
     sync_failed: bool,
+    // a sync had no room: it is noted as one that failed until what it was for is on the disk
+    is_doubted: bool,
+    are_names_doubtful: bool,
     // where a sync that fails is noted, and why it was not
     lock: Option<FolderLock>,
     note_error: Option<io::Error>,
@@ -83,6 +86,8 @@ impl<R: Files + AllocGlobal + Clone + Drop> FolderDisk<R> {
             files: OpenFiles::new(rt, path)?,
             last_error: None,
             sync_failed: false,
+            is_doubted: false,
+            are_names_doubtful: false,
             lock: None,
             note_error: None,
         })
@@ -113,14 +118,16 @@ impl<R: Files + AllocGlobal + Clone + Drop> FolderDisk<R> {
         self.last_error.as_ref()
     }
 
-    /// Whether a sync has failed: no later one promises anything until the machine is started anew.
+    /// Whether a sync has failed for anything but want of room, on the disk or in memory: no later one
+    /// promises anything until the machine is started anew.
     pub fn has_failed_sync(&self) -> bool
         ensures { IsTrue result ↔ HasFailedSync self.now }
     {
         self.sync_failed
     }
 
-    /// Keeps a lock on the folder, in whose file the first sync that fails is noted, at once.
+    /// Keeps a lock on the folder, in whose file the first sync that fails is noted, at once. One that
+    /// had no room is noted until what it was for is on the disk.
     pub fn hold(&mut self, lock: FolderLock)
         ensures same { last_error_of self.new ≡ last_error_of self.old }
         ensures sync { HasFailedSync self.new ↔ HasFailedSync self.old }
@@ -133,6 +140,16 @@ impl<R: Files + AllocGlobal + Clone + Drop> FolderDisk<R> {
         self.note_error.as_ref()
     }
 
+    // Writes to the lock's file that a sync has failed.
+    fn write_failure(&mut self)
+        ensures same { last_error_of self.new ≡ last_error_of self.old }
+        ensures sync { self.new.sync_failed ≡ self.old.sync_failed }
+    {
+        if let Some(lock) = &mut self.lock {
+            self.note_error = lock.note_failed_sync().err();
+        }
+    }
+
     // Notes that a sync has failed.
     fn note_failure(&mut self)
         ensures sync { HasFailedSync self.new }
@@ -141,10 +158,38 @@ impl<R: Files + AllocGlobal + Clone + Drop> FolderDisk<R> {
         if self.sync_failed {
             return;
         }
+        self.write_failure();
         self.sync_failed = true;
-        if let Some(lock) = &mut self.lock {
-            self.note_error = lock.note_failed_sync().err();
+    }
+
+    // Notes that a sync had no room: until that is made good, a start has to take it for one that failed.
+    fn note_doubt(&mut self)
+        ensures same { last_error_of self.new ≡ last_error_of self.old }
+        ensures sync { self.new.sync_failed ≡ self.old.sync_failed }
+    {
+        if self.sync_failed || self.is_doubted {
+            return;
         }
+        self.write_failure();
+        self.is_doubted = true;
+    }
+
+    // Takes that back, once all is on the disk.
+    fn clear_doubt(&mut self)
+        ensures same { last_error_of self.new ≡ last_error_of self.old }
+        ensures sync { self.new.sync_failed ≡ self.old.sync_failed }
+    {
+        if !self.is_doubted || self.sync_failed {
+            return;
+        }
+        if self.are_names_doubtful || self.files.has_doubtful() {
+            return;
+        }
+        let alloc = self.files.alloc();
+        self.is_doubted = match &mut self.lock {
+            Some(lock) => lock.note_sound(alloc).is_err(),
+            None => false,
+        };
     }
 
     // What the system's answer to a call means. Where it is that the disk failed, it is kept.
@@ -194,13 +239,17 @@ impl<R: Files + AllocGlobal + Clone + Drop> FolderDisk<R> {
         name: Option<&FileName>,
         answer: io::Result<()>,
     ) -> Result<(), DiskFault>
-        ensures noted { IsErr result → HasFailedSync self.new }
+        ensures noted { IfErr result (λ fault. fault ≢ DiskFault.Full → fault ≢ DiskFault.Memory
+            → HasFailedSync self.new) }
         ensures cause { HasCause (IsSome self.old.last_error) (IsSome self.new.last_error) result }
     {
-        if answer.is_err() {
-            self.note_failure();
+        let synced = self.told(target, name, answer);
+        match &synced {
+            Ok(()) => self.clear_doubt(),
+            Err(DiskFault::Full | DiskFault::Memory) => self.note_doubt(),
+            Err(_) => self.note_failure(),
         }
-        self.told(target, name, answer)
+        synced
     }
 }
 
@@ -265,6 +314,7 @@ impl<R: Files + AllocGlobal + Clone + Drop> Disk for FolderDisk<R> {
     fn sync_names(&mut self) -> Result<(), DiskFault> {
         self.check_lock()?;
         let answer = self.files.sync_names();
+        self.are_names_doubtful = answer.is_err();
         self.told_sync(Target::Folder, None, answer)
     }
 }

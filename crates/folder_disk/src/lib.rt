@@ -3,7 +3,8 @@
 //!
 //! No contract can say what a file gives, so this disk tells contracts nothing of what it holds.
 //! That the system keeps what it says is a matter of trust: that `sync_data` and `sync_all` return
-//! `Ok` only once the octets and the names are where a power cut leaves them.
+//! `Ok` only once the octets and the names are where a power cut leaves them. Of a sync that fails for
+//! want of room it is not trusted to keep what it was to bring there: that is kept here, and written again.
 #![tactic(auto)]
 
 mod boot;
@@ -11,10 +12,12 @@ mod fault;
 mod folder;
 mod lock;
 mod open_files;
+mod opened_file;
 mod owner;
 mod path;
 mod regular;
 mod transfers;
+mod unsynced;
 
 pub use fault::FileError;
 pub use folder::FolderDisk;

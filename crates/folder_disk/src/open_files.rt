@@ -1,10 +1,11 @@
 //! The files of a folder, of which those that were used stay open.
 ghost use Rattle.std.specs.Prelude.{◌<◌, ◌≤◌, IfOk, IfSome, length, vec_len};
 
+use crate::opened_file::OpenedFile;
 use crate::owner::{FolderFault, check_owner};
 use crate::path::FolderPath;
 use crate::regular::{Access, RegularFile, create_regular, open_regular, remove_regular};
-use crate::transfers::{cut_to, read_from, write_at_end, write_over};
+use crate::unsynced::Unsynced;
 use disk::FileName;
 use std::alloc::Global;
 use std::fs::OpenFile;
@@ -13,16 +14,6 @@ use std::{fs, io};
 
 /// How many files are open at once, unless more have octets that have not been synced.
 const OPEN_MAX: usize = 512;
-
-/// A file that is open. One with octets that have not been synced stays open: if it were closed
-/// before, the system's report that these could not be written might be lost.
-#[derive(Drop)]
-struct OpenedFile<F> {
-    name: FileName,
-    file: RegularFile<F>,
-    is_writable: bool,
-    is_synced: bool,
-}
 
 /// A folder's path, and those of its files that are open.
 #[derive(Drop)]
@@ -67,6 +58,14 @@ impl<R: Files + AllocGlobal + Clone + Drop> OpenFiles<R> {
         }
     }
 
+    // Closes a file that was open to be read, and returns what was written to it and not synced.
+    fn take_unsynced(&mut self, name: &FileName) -> Unsynced {
+        match self.position(name) {
+            Some(i) => self.opened.swap_remove(i).unsynced,
+            None => Unsynced::of_found(self.alloc()),
+        }
+    }
+
     // Where as many files are open as may be, one that is synced is closed.
     fn make_room(&mut self) {
         if self.opened.len() < OPEN_MAX {
@@ -83,6 +82,7 @@ impl<R: Files + AllocGlobal + Clone + Drop> OpenFiles<R> {
         name: &FileName,
         file: RegularFile<R::File>,
         is_writable: bool,
+        unsynced: Unsynced,
     ) -> io::Result<usize>
         ensures { IfOk result (λ i. i < vec_len self.new.opened) }
     {
@@ -94,6 +94,7 @@ impl<R: Files + AllocGlobal + Clone + Drop> OpenFiles<R> {
             file,
             is_writable,
             is_synced: true,
+            unsynced,
         })?;
         Ok(i)
     }
@@ -107,7 +108,7 @@ impl<R: Files + AllocGlobal + Clone + Drop> OpenFiles<R> {
         }
         let path = self.path.of_file(name)?;
         let file = open_regular(&self.rt, path.as_str(), Access::Read)?;
-        self.keep(name, file, false)
+        self.keep(name, file, false, Unsynced::of_found(self.alloc()))
     }
 
     // The place of a file that is open to be written too.
@@ -121,8 +122,8 @@ impl<R: Files + AllocGlobal + Clone + Drop> OpenFiles<R> {
         }
         let path = self.path.of_file(name)?;
         let file = open_regular(&self.rt, path.as_str(), Access::Write)?;
-        self.close(name);
-        self.keep(name, file, true)
+        let unsynced = self.take_unsynced(name);
+        self.keep(name, file, true, unsynced)
     }
 
     /// The names in the folder, except those that are not UTF-8 or that no `FileName` can hold.
@@ -134,36 +135,30 @@ impl<R: Files + AllocGlobal + Clone + Drop> OpenFiles<R> {
         ensures { IfOk result (λ n. n ≤ length buf.new) }
     {
         let i = self.open_to_read(name)?;
-        read_from(&mut self.opened[i].file.file, at, buf)
+        self.opened[i].read(at, buf)
     }
 
     pub(crate) fn create(&mut self, name: &FileName) -> io::Result<()> {
         let path = self.path.of_file(name)?;
         let file = create_regular(&self.rt, path.as_str())?;
         self.close(name);
-        self.keep(name, file, true)?;
+        self.keep(name, file, true, Unsynced::of_new(self.alloc()))?;
         Ok(())
     }
 
     pub(crate) fn append(&mut self, name: &FileName, octets: &[u8]) -> io::Result<()> {
         let i = self.open_to_write(name)?;
-        let opened = &mut self.opened[i];
-        opened.is_synced = false;
-        write_at_end(&mut opened.file.file, octets)
+        self.opened[i].append(octets)
     }
 
     pub(crate) fn overwrite(&mut self, name: &FileName, at: u64, octet: u8) -> io::Result<()> {
         let i = self.open_to_write(name)?;
-        let opened = &mut self.opened[i];
-        opened.is_synced = false;
-        write_over(&mut opened.file.file, at, octet)
+        self.opened[i].overwrite(at, octet)
     }
 
     pub(crate) fn cut(&mut self, name: &FileName, len: u64) -> io::Result<()> {
         let i = self.open_to_write(name)?;
-        let opened = &mut self.opened[i];
-        opened.is_synced = false;
-        cut_to(&mut opened.file.file, len)
+        self.opened[i].cut(len)
     }
 
     /// Refuses a file that is open and no longer has its name.
@@ -175,20 +170,22 @@ impl<R: Files + AllocGlobal + Clone + Drop> OpenFiles<R> {
         self.opened[i].file.require_name(&self.rt, path.as_str())
     }
 
-    /// Brings a file to the disk. A file whose sync failed is closed, and opened anew by the next
-    /// call on it.
+    /// Brings a file to the disk. Where there was no room, a later call on the file writes again what was
+    /// to be brought there; a file whose sync failed otherwise is closed, and opened anew by the next.
     pub(crate) fn sync(&mut self, name: &FileName) -> io::Result<()> {
         let i = self.open_to_read(name)?;
-        match self.opened[i].file.file.sync_data() {
-            Ok(()) => {
-                self.opened[i].is_synced = true;
-                Ok(())
-            }
-            Err(error) => {
-                drop(self.opened.swap_remove(i));
-                Err(error)
-            }
+        let synced = self.opened[i].sync();
+        if synced.is_err() && !self.opened[i].unsynced.is_doubtful() {
+            drop(self.opened.swap_remove(i));
         }
+        synced
+    }
+
+    /// Whether a sync of a file had no room, and what was written has not been brought to the disk since.
+    pub(crate) fn has_doubtful(&self) -> bool {
+        self.opened
+            .iter()
+            .any(|opened| opened.unsynced.is_doubtful())
     }
 
     /// Renames a file. One that is open and has been synced is closed: where another process removes
@@ -197,6 +194,9 @@ impl<R: Files + AllocGlobal + Clone + Drop> OpenFiles<R> {
         let new_name = to.copy(self.alloc())?;
         let old_path = self.path.of_file(from)?;
         let new_path = self.path.of_file(to)?;
+        if let Some(i) = self.position(from) {
+            self.opened[i].restore()?;
+        }
         fs::rename(&self.rt, old_path.as_str(), new_path.as_str())?;
         if from.as_octets() == to.as_octets() {
             return Ok(());

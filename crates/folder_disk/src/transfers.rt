@@ -24,18 +24,9 @@ pub(crate) fn read_from<F: Read + Seek>(file: &mut F, at: u64, buf: &mut [u8]) -
     Err(ErrorKind::Interrupted.into())
 }
 
-/// Writes all octets at the end.
-pub(crate) fn write_at_end<F: Write + Seek>(file: &mut F, octets: &[u8]) -> io::Result<()> {
-    file.seek(SeekFrom::End(0))?;
-    file.write_all(octets)
-}
-
-/// Overwrites the octet at an offset, if there is one.
-pub(crate) fn write_over<F: Write + Seek>(file: &mut F, at: u64, octet: u8) -> io::Result<()> {
-    if at >= file.seek(SeekFrom::End(0))? {
-        return Ok(());
-    }
-    write_from(file, at, &[octet])
+/// Where a file ends.
+pub(crate) fn end_of<F: Seek>(file: &mut F) -> io::Result<u64> {
+    file.seek(SeekFrom::End(0))
 }
 
 /// Writes all octets from an offset on, over what is there.
@@ -46,7 +37,7 @@ pub(crate) fn write_from<F: Write + Seek>(file: &mut F, at: u64, octets: &[u8]) 
 
 /// Cuts a file to a length in octets, if it is longer.
 pub(crate) fn cut_to<F: OpenFile + Seek>(file: &mut F, len: u64) -> io::Result<()> {
-    if len < file.seek(SeekFrom::End(0))? {
+    if len < end_of(file)? {
         file.set_len(len)?;
     }
     Ok(())

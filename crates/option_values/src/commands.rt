@@ -155,6 +155,13 @@ pub const VERIFY_COMMAND: CommandRow = CommandRow {
     options: &[DIR],
 };
 
+/// `stat`.
+pub const STAT_COMMAND: CommandRow = CommandRow {
+    name: "stat",
+    about: "Write a line for each file of a store: its records, octets and times",
+    options: &[DIR],
+};
+
 /// `compact`.
 pub const COMPACT_COMMAND: CommandRow = CommandRow {
     name: "compact",
@@ -227,7 +234,7 @@ pub const SERVE_COMMAND: CommandRow = CommandRow {
 };
 
 /// The commands, in the order of the help.
-pub const COMMANDS: [CommandRow; 24] = [
+pub const COMMANDS: [CommandRow; 25] = [
     SHOW_COMMAND,
     CHECK_COMMAND,
     CONVERT_COMMAND,
@@ -246,6 +253,7 @@ pub const COMMANDS: [CommandRow; 24] = [
     CONFIRM_COMMAND,
     READ_COMMAND,
     VERIFY_COMMAND,
+    STAT_COMMAND,
     COMPACT_COMMAND,
     ADD_COMMAND,
     EXPIRE_COMMAND,

@@ -121,7 +121,7 @@ fn usage_faults(rt: &HostRuntime, input: &[u8], rows: &[&[&str]]) -> Result<(), 
 
 #[test]
 fn other_words_are_a_usage_fault(rt: HostRuntime) -> Result<(), Fail> {
-    let rows: [&[&str]; 23] = [
+    let rows: [&[&str]; 24] = [
         &[],
         &["--help"],
         &["help"],
@@ -141,6 +141,7 @@ fn other_words_are_a_usage_fault(rt: HostRuntime) -> Result<(), Fail> {
         &["archive", "--memory", "0"],
         &["read", "d", "--to", "-"],
         &["verify"],
+        &["stat"],
         &["compact"],
         &["add"],
         &["expire", "d"],
@@ -151,10 +152,11 @@ fn other_words_are_a_usage_fault(rt: HostRuntime) -> Result<(), Fail> {
 
 #[test]
 fn what_only_a_program_has_is_a_fault(rt: HostRuntime) -> Result<(), Fail> {
-    let rows: [(&[&str], &[u8]); 8] = [
+    let rows: [(&[&str], &[u8]); 9] = [
         (&["archive", "--spill", "d"], b"spill fault\n"),
         (&["read", "d"], b"store fault\n"),
         (&["verify", "d"], b"store fault\n"),
+        (&["stat", "d"], b"store fault\n"),
         (&["compact", "d"], b"store fault\n"),
         (&["add", "d"], b"store fault\n"),
         (&["expire", "d", "--keep", "90"], b"store fault\n"),

@@ -161,7 +161,8 @@ impl RecordStore {
     /// Opens the store again after a call has failed for a full disk or for lack of memory: its
     /// newest journal is brought to the disk and cut behind its batches. The batch that waits is
     /// still there, so the next commit writes it; if the journal has it already, having it twice is
-    /// the same set. Once a sync has failed, it can promise nothing until the machine is restarted.
+    /// the same set. Once a sync has failed for anything but want of room, it can promise nothing until
+    /// the machine is restarted.
     ///
     /// # Errors
     /// Those of `open`. The store is broken then, and may be opened again as it is.

@@ -3,5 +3,8 @@ pub mod Numbers
 pub mod Listing
 pub mod Stays
 pub mod Orders
+pub mod Runs
+pub mod Rounds
+pub mod Alternating
 pub mod Places
 pub mod Shares

@@ -1,5 +1,6 @@
 pub mod Steps
 pub mod Waiting
+pub mod Runs
 pub mod Scripts
 pub mod Refusals
 pub mod Sockets

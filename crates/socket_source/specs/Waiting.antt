@@ -1,8 +1,8 @@
 -- Numbers that wait, each at most once.
-use Rattle.std.specs.Prelude.{◌≡◌, ◌⊎◌, ℕ, ◌+◌, ◌<◌, ◌≤◌, Bool, true, false, List, [], ◌∷◌, ◌++◌, length, min, take, drop}
-use Rattle.std.specs.Prelude.{slice_set, slice_index_or, Option, Some, None}
+use Rattle.std.specs.Prelude.{◌≡◌, ◌⊎◌, ℕ, zero, suc, ◌+◌, ◌<◌, ◌≤◌, Bool, true, false, List, [], ◌∷◌, ◌++◌, length, min, take, drop}
+use Rattle.std.specs.Prelude.{nat_lt, if◌then◌else◌, slice_get, slice_set, slice_index_or, Option, Some, None}
 use Rattle.std.specs.Int.{div_ceil}
-use Rattle.socket_source.specs.declared.limits.TheConstants.{DATAGRAM_TURNS_A_ROUND, STEPS_BETWEEN}
+use Rattle.socket_source.specs.declared.limits.TheConstants.{ACCEPTS_A_TURN, DATAGRAMS_A_TURN, DATAGRAM_TURNS_A_ROUND, STEPS_BETWEEN}
 use Rattle.socket_source.specs.declared.ready_sockets.Chosen.{Chosen}
 use Rattle.socket_source.specs.declared.ready_sockets.Chosen.TheVariants as chosen
 
@@ -19,28 +19,72 @@ Queues room queued queued_now waiting waiting_now number =
 abbrev pub KeepsOrder : ℕ → List ℕ → List ℕ → Type 0
 KeepsOrder gone queue queue_now = take (length (drop gone queue)) queue_now ≡ drop gone queue
 
--- a number that left a queue comes back before all others, or stays behind those that were there
-abbrev pub Returns : ℕ → List ℕ → List ℕ → Type 0
-Returns number queue queue_now = KeepsOrder 0 (number ∷ queue) queue_now ⊎ KeepsOrder 0 queue queue_now
-
--- at most the first has left a queue; all others are still in it, in their order and before all others
-abbrev pub MovesUp : List ℕ → List ℕ → Type 0
-MovesUp queue queue_now = KeepsOrder 0 queue queue_now ⊎ KeepsOrder 1 queue queue_now
-
--- The sockets that have something: those of datagrams, and the others, each in the order of their turns; whether a datagram socket
--- goes on with its turn; and how many steps the others have had since a datagram socket had one, up to as many as they may have.
-pub record Line : Type 0 where
-  pub datagrams : List ℕ
-  pub others : List ℕ
+-- A queue: the numbers of the sockets that have something, in the order of their turns; whether the first goes on with its turn; and
+-- how many steps that turn has had, or the one of the number that was taken last.
+pub record Queue : Type 0 where
+  pub numbers : List ℕ
   pub goes_on : Bool
+  pub steps : ℕ
+
+-- how many steps the first has had of its turn
+abbrev pub steps_had : Queue → ℕ
+steps_had queue = if queue.goes_on then queue.steps else 0
+
+-- all stay in their order and before all that come, and the turn of the first is as far as it was
+pub record Stays (old new : Queue) : Type 0 where
+  pub numbers : KeepsOrder 0 old.numbers new.numbers
+  pub goes_on : new.goes_on ≡ old.goes_on
+  pub had : steps_had new ≡ steps_had old
+
+-- the first leaves its queue for a step
+pub record TakesFirst (number : ℕ) (old new : Queue) : Type 0 where
+  pub first : old.numbers ≡ number ∷ new.numbers
+  pub goes_on : new.goes_on ≡ false
+  pub steps : new.steps ≡ steps_had old
+
+-- it comes back before all others, and its turn has had a step more, and fewer than it may have
+pub record GoesOn (number most : ℕ) (old new : Queue) : Type 0 where
+  pub numbers : KeepsOrder 0 (number ∷ old.numbers) new.numbers
+  pub goes_on : new.goes_on ≡ true
+  pub steps : new.steps ≡ old.steps + 1
+  pub few : new.steps < most
+
+-- it comes back behind all others, or does not
+pub record Ends (old new : Queue) : Type 0 where
+  pub numbers : KeepsOrder 0 old.numbers new.numbers
+  pub goes_on : new.goes_on ≡ old.goes_on
+
+-- a number that left a queue has had a step, of at most so many in a turn
+abbrev pub Returns : ℕ → ℕ → Queue → Queue → Type 0
+Returns number most old new = GoesOn number most old new ⊎ Ends old new
+
+-- The first of a queue has a step. Its turn ends, and all others move up; or it goes on, where that was not the last of so many steps.
+pub record Serves (number : ℕ) (ends : Bool) (most : ℕ) (old new : Queue) : Type 0 where
+  pub first : slice_get old.numbers 0 ≡ Some number
+  pub numbers : KeepsOrder (if ends then 1 else 0) old.numbers new.numbers
+  pub goes_on : new.goes_on ≡ (if ends then false else true)
+  pub had : steps_had new ≡ (if ends then 0 else (steps_had old + 1))
+  pub few : steps_had new < most
+
+-- The sockets that have something: those of datagrams, and the others, each in the order of their turns; how many steps the others
+-- have had since a datagram socket had one, up to as many as they may have; and how many listeners there are.
+pub record Line : Type 0 where
+  pub datagrams : Queue
+  pub others : Queue
   pub between : ℕ
+  pub listeners : ℕ
 
 -- all stay in their order, and before all that come
 pub record Keeps (old new : Line) : Type 0 where
-  pub datagrams : KeepsOrder 0 old.datagrams new.datagrams
-  pub others : KeepsOrder 0 old.others new.others
-  pub goes_on : new.goes_on ≡ old.goes_on
+  pub datagrams : Stays old.datagrams new.datagrams
+  pub others : Stays old.others new.others
   pub between : new.between ≡ old.between
+  pub listeners : new.listeners ≡ old.listeners
+
+-- the most steps in a turn of a socket that is none of datagrams: that of a listener, whose numbers begin at 1, has several
+abbrev pub most_steps : ℕ → ℕ → ℕ
+most_steps listeners zero = 1
+most_steps listeners (suc listener) = if nat_lt listener listeners then ACCEPTS_A_TURN else 1
 
 -- how many steps so many other sockets may have before a datagram socket: a part of a turn of each, and no more than a number
 abbrev pub room_of : ℕ → ℕ
@@ -48,62 +92,69 @@ room_of ready = min (div_ceil ready DATAGRAM_TURNS_A_ROUND) STEPS_BETWEEN
 
 -- a step of a datagram socket may come next: it goes on with its turn, or the others have had as many steps as they may before it
 abbrev pub MayTakeDatagram : Line → Type 0
-MayTakeDatagram l = (l.goes_on ≡ true) ⊎ (room_of (length l.others) ≤ l.between)
+MayTakeDatagram l = (l.datagrams.goes_on ≡ true) ⊎ (room_of (length l.others.numbers) ≤ l.between)
 
 -- a step of another socket may come next: no datagram socket has anything, or those that do may wait for longer
 abbrev pub MayTakeOther : Line → Type 0
-MayTakeOther l = (l.datagrams ≡ []) ⊎ ((l.goes_on ≡ false) × (l.between < room_of (length l.others)))
+MayTakeOther l =
+    (l.datagrams.numbers ≡ []) ⊎ ((l.datagrams.goes_on ≡ false) × (l.between < room_of (length l.others.numbers)))
 
 -- the first of the datagram sockets leaves its queue
 pub record LeavesDatagrams (number : ℕ) (old new : Line) : Type 0 where
   pub may : MayTakeDatagram old
-  pub first : old.datagrams ≡ number ∷ new.datagrams
-  pub others : new.others ≡ old.others
+  pub datagrams : TakesFirst number old.datagrams new.datagrams
+  pub others : Stays old.others new.others
   pub between : new.between ≡ 0
+  pub listeners : new.listeners ≡ old.listeners
 
 -- the first of the others leaves its queue
 pub record LeavesOthers (number : ℕ) (old new : Line) : Type 0 where
   pub may : MayTakeOther old
-  pub first : old.others ≡ number ∷ new.others
-  pub datagrams : new.datagrams ≡ old.datagrams
-  pub goes_on : new.goes_on ≡ old.goes_on
+  pub others : TakesFirst number old.others new.others
+  pub datagrams : Stays old.datagrams new.datagrams
   pub between : new.between ≡ min (old.between + 1) STEPS_BETWEEN
+  pub listeners : new.listeners ≡ old.listeners
+
+-- no socket has anything
+abbrev pub IsEmpty : Line → Type 0
+IsEmpty l = (l.datagrams.numbers ≡ []) × (l.others.numbers ≡ [])
 
 -- the socket that has the next step leaves its queue; if there is none, none has anything
 abbrev pub Chooses : Option Chosen → Line → Line → Type 0
-Chooses None old new = (old.datagrams ≡ []) × ((old.others ≡ []) × Keeps old new)
+Chooses None old new = IsEmpty old × Keeps old new
 Chooses (Some (chosen.Datagrams number)) old new = LeavesDatagrams number old new
 Chooses (Some (chosen.Other number)) old new = LeavesOthers number old new
 
--- a socket that left its queue comes back before all others, or stays behind those that were there
+-- a datagram socket that left its queue has had a step
+pub record ReturnsDatagram (number : ℕ) (old new : Line) : Type 0 where
+  pub datagrams : Returns number DATAGRAMS_A_TURN old.datagrams new.datagrams
+  pub others : Stays old.others new.others
+  pub between : new.between ≡ old.between
+  pub listeners : new.listeners ≡ old.listeners
+
+-- another socket that left its queue has had a step
+pub record ReturnsOther (number : ℕ) (old new : Line) : Type 0 where
+  pub datagrams : Stays old.datagrams new.datagrams
+  pub others : Returns number (most_steps old.listeners number) old.others new.others
+  pub between : new.between ≡ old.between
+  pub listeners : new.listeners ≡ old.listeners
+
 abbrev pub ComesBack : Chosen → Line → Line → Type 0
-ComesBack (chosen.Datagrams number) old new =
-    Returns number old.datagrams new.datagrams × (KeepsOrder 0 old.others new.others × (new.between ≡ old.between))
-ComesBack (chosen.Other number) old new =
-    KeepsOrder 0 old.datagrams new.datagrams × (Returns number old.others new.others
-    × ((new.goes_on ≡ old.goes_on) × (new.between ≡ old.between)))
+ComesBack (chosen.Datagrams number) old new = ReturnsDatagram number old new
+ComesBack (chosen.Other number) old new = ReturnsOther number old new
 
--- a datagram socket has had a step
-pub record TakesDatagram (old new : Line) : Type 0 where
+-- a datagram socket has a step
+pub record TakesDatagram (number : ℕ) (ends : Bool) (old new : Line) : Type 0 where
   pub may : MayTakeDatagram old
-  pub datagrams : MovesUp old.datagrams new.datagrams
-  pub others : KeepsOrder 0 old.others new.others
+  pub datagrams : Serves number ends DATAGRAMS_A_TURN old.datagrams new.datagrams
+  pub others : Stays old.others new.others
   pub between : new.between ≡ 0
+  pub listeners : new.listeners ≡ old.listeners
 
--- no datagram socket had anything, or the others, with the one that has left its queue, had had fewer steps than they may
-abbrev pub MayHaveWaited : Line → Line → Type 0
-MayHaveWaited old new =
-    (old.datagrams ≡ []) ⊎ ((old.goes_on ≡ false) × (old.between < room_of (length new.others + 1)))
-
--- another socket has had a step
-pub record TakesOther (old new : Line) : Type 0 where
-  pub may : MayHaveWaited old new
-  pub datagrams : KeepsOrder 0 old.datagrams new.datagrams
-  pub others : MovesUp old.others new.others
-  pub goes_on : new.goes_on ≡ old.goes_on
+-- another socket has a step
+pub record TakesOther (number : ℕ) (ends : Bool) (old new : Line) : Type 0 where
+  pub may : MayTakeOther old
+  pub datagrams : Stays old.datagrams new.datagrams
+  pub others : Serves number ends (most_steps old.listeners number) old.others new.others
   pub between : new.between ≡ min (old.between + 1) STEPS_BETWEEN
-
--- At most one socket has had a step, the first of its queue: of two turns, that of a datagram socket comes first as soon as the
--- others have had as many steps as they may.
-abbrev pub TakesTurn : Line → Line → Type 0
-TakesTurn old new = Keeps old new ⊎ (TakesDatagram old new ⊎ TakesOther old new)
+  pub listeners : new.listeners ≡ old.listeners

@@ -10,7 +10,6 @@ ghost use Rattle.socket_source.specs.declared.step.ServerStep.TheVariants.{Datag
 use crate::allowed::is_peer;
 use crate::bound::{Bound, accept_from, receive};
 use crate::connections::Connections;
-use crate::limits::{ACCEPTS_A_TURN, DATAGRAMS_A_TURN};
 use crate::peers::peer_number;
 use crate::ready::listener_number;
 use crate::refusal::{Reading, Refusal, Retry, retry_of};
@@ -340,17 +339,6 @@ impl OpenSockets {
                     Err(_) => Taken::none(Retry::Reported),
                 }
             }
-        }
-    }
-
-    /// How many steps a turn of a socket has at most.
-    pub(crate) fn steps_of(&self, socket: usize) -> usize
-        ensures { result ≤ DATAGRAMS_A_TURN }
-    {
-        match self.listeners.get(socket) {
-            Some(Bound::Streams { .. }) => ACCEPTS_A_TURN,
-            Some(Bound::Datagrams { .. }) => DATAGRAMS_A_TURN,
-            None => 1,
         }
     }
 }

@@ -1,8 +1,8 @@
 //! The sockets that may have something.
-ghost use Rattle.std.specs.Prelude.{◌≡◌, ◌⊎◌, ◌+◌, ◌++◌, ◌<◌, ◌≤◌, [], length, IfNone, IfOk, IsSome, None, is_some, vec_len};
+ghost use Rattle.std.specs.Prelude.{◌≡◌, ◌+◌, ◌++◌, ◌≤◌, [], length, IfNone, IfOk, IfSome, is_some, vec_len};
 ghost use Rattle.std.specs.Option.{option_to_list};
 ghost use Rattle.std.specs.VecDeque.{deque_capacity};
-ghost use Rattle.socket_source.specs.Waiting.{KeepsOrder, Queues, Returns};
+ghost use Rattle.socket_source.specs.Waiting.{Queues, Returns, Stays, TakesFirst};
 
 use std::alloc::{AllocError, Global};
 use std::collections::VecDeque;
@@ -33,7 +33,7 @@ impl ReadyQueue {
     /// A queue in which no number waits, with room for those below `count`. It fails only when out
     /// of memory.
     pub(crate) fn new(alloc: Global, count: usize) -> Result<ReadyQueue, AllocError>
-        ensures empty { IfOk result (λ ready. queue_of ready ≡ []) }
+        ensures empty { IfOk result (λ ready. (queue_of ready).numbers ≡ []) }
         ensures room { IfOk result (λ ready. vec_len ready.queued ≡ count) }
     {
         Ok(ReadyQueue {
@@ -48,10 +48,8 @@ impl ReadyQueue {
     pub(crate) fn push(&mut self, number: usize)
         ensures queued { Queues (deque_capacity self.old.waiting) self.old.queued.items
             self.new.queued.items self.old.waiting.items self.new.waiting.items number }
-        ensures order { KeepsOrder 0 (queue_of self.old) (queue_of self.new) }
-        ensures longer { length (queue_of self.new) ≤ length (queue_of self.old) + 1 }
-        ensures going { self.new.going ≡ self.old.going }
-        ensures steps { self.new.steps ≡ self.old.steps }
+        ensures stays { Stays (queue_of self.old) (queue_of self.new) }
+        ensures longer { length (queue_of self.new).numbers ≤ length (queue_of self.old).numbers + 1 }
     {
         if number < self.queued.len() && !self.queued[number] {
             let put = self.waiting.push_back(number);
@@ -64,6 +62,7 @@ impl ReadyQueue {
         ensures first { self.old.waiting.items ≡ option_to_list result ++ self.new.waiting.items }
         ensures none { IfNone result (self.old.waiting.items ≡ []) }
         ensures going { self.new.going ≡ self.old.going }
+        ensures steps { self.new.steps ≡ self.old.steps }
     {
         let number = self.waiting.pop_front()?;
         if let Some(queued) = self.queued.get_mut(number) {
@@ -75,9 +74,9 @@ impl ReadyQueue {
     /// Takes the number that has its turn: the one that goes on, or else the one that has waited
     /// longest.
     pub(crate) fn next(&mut self) -> Option<usize>
-        ensures first { queue_of self.old ≡ option_to_list result ++ queue_of self.new }
-        ensures none { IfNone result (queue_of self.old ≡ []) }
-        ensures over { self.new.going ≡ None }
+        ensures first { IfSome result (λ number. TakesFirst number (queue_of self.old) (queue_of self.new)) }
+        ensures none { IfNone result ((queue_of self.old).numbers ≡ []) }
+        ensures stays { IfNone result (Stays (queue_of self.old) (queue_of self.new)) }
     {
         if let Some(number) = self.going {
             self.going = None;
@@ -90,10 +89,8 @@ impl ReadyQueue {
     /// A number has had a step, and has something left. It goes on while its turn may have more
     /// steps, and then waits behind the others.
     pub(crate) fn stay(&mut self, number: usize, most: usize)
-        ensures stays { Returns number (queue_of self.old) (queue_of self.new) }
-        ensures longer { length (queue_of self.new) ≤ length (queue_of self.old) + 1 }
-        ensures few { IsSome self.new.going → self.new.going ≡ self.old.going ⊎ self.new.steps < most }
-        ensures counted { self.new.steps ≡ self.old.steps ⊎ self.new.steps ≡ self.old.steps + 1 }
+        ensures returns { Returns number most (queue_of self.old) (queue_of self.new) }
+        ensures longer { length (queue_of self.new).numbers ≤ length (queue_of self.old).numbers + 1 }
     {
         let steps = self.steps.saturating_add(1);
         if steps < most && self.going.is_none() {
@@ -113,7 +110,7 @@ impl ReadyQueue {
 
     /// How many numbers wait or go on.
     pub(crate) fn len(&self) -> usize
-        ensures { result ≡ length (queue_of self.now) }
+        ensures { result ≡ length (queue_of self.now).numbers }
     {
         self.waiting.len() + usize::from(self.going.is_some())
     }

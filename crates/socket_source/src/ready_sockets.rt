@@ -1,10 +1,10 @@
 //! Whose turn it is: datagram sockets come between the steps of all others.
-ghost use Rattle.std.specs.Prelude.{◌≡◌, ◌+◌, ◌<◌, ◌≤◌, false, true, length, map, min, IfOk};
+ghost use Rattle.std.specs.Prelude.{◌≡◌, ◌+◌, ◌<◌, ◌≤◌, false, true, length, map, min, vec_len, IfOk};
 ghost use Rattle.socket_source.specs.Kinds.{is_datagrams};
-ghost use Rattle.socket_source.specs.Waiting.{Chooses, ComesBack, Keeps, MayTakeDatagram, MayTakeOther};
+ghost use Rattle.socket_source.specs.Waiting.{Chooses, ComesBack, Keeps, MayTakeDatagram, MayTakeOther, most_steps};
 
 use crate::bound::Bound;
-use crate::limits::{DATAGRAM_TURNS_A_ROUND, STEPS_BETWEEN};
+use crate::limits::{ACCEPTS_A_TURN, DATAGRAM_TURNS_A_ROUND, DATAGRAMS_A_TURN, STEPS_BETWEEN};
 use crate::ready::{ReadyQueue, listener_number};
 use mio::Events;
 use std::alloc::{AllocError, Global};
@@ -111,7 +111,7 @@ impl ReadySockets {
     fn is_datagrams_turn(&self) -> bool
         ensures datagrams { result ≡ true → MayTakeDatagram (line_of self.now) }
         ensures others { result ≡ false → MayTakeOther (line_of self.now) }
-        ensures some { result ≡ true → 0 < length (line_of self.now).datagrams }
+        ensures some { result ≡ true → 0 < length (line_of self.now).datagrams.numbers }
     {
         let ready = self.others.len();
         let most = ready.div_ceil(DATAGRAM_TURNS_A_ROUND).min(STEPS_BETWEEN);
@@ -134,16 +134,29 @@ impl ReadySockets {
         Some(Chosen::Other(number))
     }
 
+    // The most steps in a turn of a socket that is none of datagrams.
+    fn steps_of(&self, number: usize) -> usize
+        ensures { result ≡ most_steps (vec_len self.now.kinds) number }
+    {
+        match number.checked_sub(1) {
+            Some(listener) if listener < self.kinds.len() => ACCEPTS_A_TURN,
+            _ => 1,
+        }
+    }
+
     /// A socket has had a step, and has something left. It goes on while its turn may have more
     /// steps, and then waits behind the others of its kind.
-    pub(crate) fn stay(&mut self, chosen: Chosen, most: usize)
+    pub(crate) fn stay(&mut self, chosen: Chosen)
         ensures comes_back { ComesBack chosen (line_of self.old) (line_of self.new) }
         ensures kinds { self.new.kinds ≡ self.old.kinds }
         ensures longer { ready_in (line_of self.new) ≤ ready_in (line_of self.old) + 1 }
     {
         match chosen {
-            Chosen::Datagrams(number) => self.datagrams.stay(number, most),
-            Chosen::Other(number) => self.others.stay(number, most),
+            Chosen::Datagrams(number) => self.datagrams.stay(number, DATAGRAMS_A_TURN),
+            Chosen::Other(number) => {
+                let most = self.steps_of(number);
+                self.others.stay(number, most);
+            }
         }
     }
 

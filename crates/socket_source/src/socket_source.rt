@@ -68,8 +68,10 @@ impl<'a, R: Net + Files + Clock> SocketSource<'a, R> {
 impl<'a, R: Clock> ServerSource for SocketSource<'a, R> {
     ghost use Rattle.std.specs.Prelude.{None, length};
     ghost use Rattle.socket_source.specs.Lines.{line, ready_in};
-    ghost use Rattle.socket_source.specs.Steps.{GaveStep, counts_of};
+    ghost use Rattle.socket_source.specs.Steps.{Closes, GaveStep, counts_of};
+    ghost use Rattle.socket_source.specs.Runs.{HasTurns};
     ghost use Rattle.socket_source.specs.Turns.{IsBounded};
+    ghost use Rattle.socket_source.specs.Waiting.{Keeps};
     ghost use Rattle.socket_source.specs.Standings.{framings, standing};
 
     ghost state = { λ s. record {
@@ -83,13 +85,19 @@ impl<'a, R: Clock> ServerSource for SocketSource<'a, R> {
             (⟦<SocketSource<'a, R> as ServerSource>⟧.state self.new) result buf.new }
         // A turn gives a part of what a connection has: a smaller one, the more sockets are ready.
         ensures bounded { IsBounded (ready_in (line self.new.sockets)) (framings self.new.sockets) buf.new result }
+        // Sockets have their turns in order, each a bounded number of steps.
+        ensures turns { HasTurns (Some result) (line self.old.sockets) (line self.new.sockets) }
     {
         let step = self.sockets.next_step(buf);
         self.counts.count(step);
         step
     }
 
-    fn close(&mut self, conn: u32) {
+    fn close(&mut self, conn: u32)
+        ensures closes { Closes (⟦<SocketSource<'a, R> as ServerSource>⟧.state self.old)
+            (⟦<SocketSource<'a, R> as ServerSource>⟧.state self.new) conn }
+        ensures keeps { Keeps (line self.old.sockets) (line self.new.sockets) }
+    {
         self.sockets.release(conn);
     }
 }

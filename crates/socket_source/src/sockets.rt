@@ -1,10 +1,11 @@
 //! The sockets of the system, in one loop without threads.
-ghost use Rattle.std.specs.Prelude.{◌≡◌, ◌+◌, ◌<◌, ◌≤◌, true, length, max, min, IfErr, IfOk, IfSome};
+ghost use Rattle.std.specs.Prelude.{◌≡◌, ◌+◌, ◌<◌, ◌≤◌, true, [], length, max, min, IfErr, IfNone, IfOk, IfSome};
 ghost use Rattle.socket_source.specs.Opens.{IsFaultOf};
+ghost use Rattle.socket_source.specs.Runs.{HasTurns, IsServed, ServesAny};
 ghost use Rattle.socket_source.specs.Shares.{IsShareOf};
 ghost use Rattle.socket_source.specs.Steps.{Becomes, IfLawful, IsLawful, IsVacant, without_open};
 ghost use Rattle.socket_source.specs.Turns.{IfPiece, IsBounded};
-ghost use Rattle.socket_source.specs.Waiting.{ComesBack, Keeps, TakesTurn};
+ghost use Rattle.socket_source.specs.Waiting.{ComesBack, Keeps};
 
 use crate::connections::Connections;
 use crate::input::{InputTurn, read_input, watch_input};
@@ -88,7 +89,7 @@ pub(crate) struct Sockets<'a, R> {
 }
 
 impl<'a, R: Clock> Sockets<'a, R> {
-    ghost use Rattle.socket_source.specs.Lines.{line, ready_in};
+    ghost use Rattle.socket_source.specs.Lines.{Asks, Passes, line, ready_in};
     ghost use Rattle.socket_source.specs.Standings.{framings, standing};
 
     // The number of a connection's socket among all.
@@ -100,6 +101,8 @@ impl<'a, R: Clock> Sockets<'a, R> {
     fn retry_listeners(&mut self)
         ensures standing { standing self.new ≡ standing self.old }
         ensures stays { self.new.held ≡ self.old.held }
+        ensures round { self.new.round ≡ self.old.round }
+        ensures early { self.new.early ≡ self.old.early }
         ensures order { Keeps (line self.old) (line self.new) }
     {
         if self.later {
@@ -123,6 +126,8 @@ impl<'a, R: Clock> Sockets<'a, R> {
     fn tick(&mut self, now: Instant) -> Option<ServerStep>
         ensures lawful { IfLawful (standing self.old) (standing self.new) 0 result }
         ensures order { Keeps (line self.old) (line self.new) }
+        ensures unserved { IfSome result (λ step. IsServed step []) }
+        ensures early { IfNone result (self.new.early < self.old.early) }
     {
         self.ticked = now;
         self.retry_listeners();
@@ -138,6 +143,7 @@ impl<'a, R: Clock> Sockets<'a, R> {
     fn tick_at_once(&mut self) -> ServerStep
         ensures lawful { IsLawful (standing self.old) (standing self.new) 0 result }
         ensures order { Keeps (line self.old) (line self.new) }
+        ensures unserved { IsServed result [] }
     {
         self.early = self.early.saturating_add(1).min(EARLY_MAX);
         ServerStep::Tick
@@ -158,6 +164,7 @@ impl<'a, R: Clock> Sockets<'a, R> {
     fn use_room(&mut self, step: Option<ServerStep>)
         ensures standing { standing self.new ≡ standing self.old }
         ensures stays { self.new.held ≡ self.old.held }
+        ensures round { self.new.round ≡ self.old.round }
         ensures order { Keeps (line self.old) (line self.new) }
         ensures longer { IfSome step (IfPiece (λ conn len. ready_in (line self.new) ≤ ready_in (line self.old))) }
     {
@@ -167,7 +174,7 @@ impl<'a, R: Clock> Sockets<'a, R> {
     }
 
     // A socket has had a step, and is tried again in time.
-    fn settle(&mut self, chosen: Chosen, most: usize, retry: Retry)
+    fn settle(&mut self, chosen: Chosen, retry: Retry)
         ensures standing { standing self.new ≡ standing self.old }
         ensures stays { self.new.held ≡ self.old.held }
         ensures comes_back { ComesBack chosen (line self.old) (line self.new) }
@@ -175,7 +182,7 @@ impl<'a, R: Clock> Sockets<'a, R> {
     {
         match retry {
             Retry::Reported => {}
-            Retry::Now => self.ready.stay(chosen, most),
+            Retry::Now => self.ready.stay(chosen),
             Retry::Later => self.later = true,
         }
     }
@@ -184,6 +191,7 @@ impl<'a, R: Clock> Sockets<'a, R> {
     fn queue(&mut self, number: usize, retry: Retry)
         ensures standing { standing self.new ≡ standing self.old }
         ensures stays { self.new.held ≡ self.old.held }
+        ensures round { self.new.round ≡ self.old.round }
         ensures order { Keeps (line self.old) (line self.new) }
         ensures longer { ready_in (line self.new) ≤ ready_in (line self.old) + 1 }
     {
@@ -196,6 +204,7 @@ impl<'a, R: Clock> Sockets<'a, R> {
     fn find_silent(&mut self, now: Instant) -> Option<u32>
         ensures standing { standing self.new ≡ standing self.old }
         ensures ready { self.new.ready ≡ self.old.ready }
+        ensures round { self.new.round ≡ self.old.round }
     {
         let idle = self.idle?;
         if now.duration_since(self.sweeping_since) >= Duration::from_secs(SWEEP_SECONDS) {
@@ -216,6 +225,8 @@ impl<'a, R: Clock> Sockets<'a, R> {
         ensures lawful { IfLawful (standing self.old) (standing self.new) (length buf.new) result }
         ensures bounded { IfSome result (IsBounded (ready_in (line self.new)) (framings self.new) buf.new) }
         ensures order { Keeps (line self.old) (line self.new) }
+        ensures round { self.new.round ≡ self.old.round }
+        ensures unserved { IfSome result (λ step. IsServed step []) }
     {
         let conn = self.find_silent(now)?;
         let number = self.socket_number(conn);
@@ -231,6 +242,7 @@ impl<'a, R: Clock> Sockets<'a, R> {
         requires { (standing self.old).live conn ≡ true }
         ensures lawful { IsLawful (standing self.old) (standing self.new) 0 result }
         ensures order { Keeps (line self.old) (line self.new) }
+        ensures unserved { IsServed result [] }
     {
         self.release(conn);
         ServerStep::Ended { conn, end }
@@ -240,6 +252,7 @@ impl<'a, R: Clock> Sockets<'a, R> {
     fn finish(&mut self, now: Instant) -> ServerStep
         ensures lawful { IsLawful (standing self.old) (standing self.new) 0 result }
         ensures order { Keeps (line self.old) (line self.new) }
+        ensures unserved { IsServed result [] }
     {
         match self.held.connections.find_idle(0, now, Duration::ZERO) {
             Some(conn) => self.end(conn, ConnectionEnd::Closed),
@@ -264,6 +277,8 @@ impl<'a, R: Clock> Sockets<'a, R> {
     fn ask(&mut self, now: Instant) -> Option<ServerStep>
         ensures lawful { IfLawful (standing self.old) (standing self.new) 0 result }
         ensures order { Keeps (line self.old) (line self.new) }
+        ensures unserved { IfSome result (λ step. IsServed step []) }
+        ensures round { IfNone result (self.new.round ≡ min (ready_in (line self.new)) ROUND_MAX) }
     {
         let patience = self.patience(now);
         if self
@@ -308,14 +323,13 @@ impl<'a, R: Clock> Sockets<'a, R> {
             Some(socket) => {
                 let share = self.share();
                 let taken = self.held.take(socket, share, now, buf);
-                let most = self.held.steps_of(socket);
-                self.settle(chosen, most, taken.retry);
+                self.settle(chosen, taken.retry);
                 self.use_room(taken.step);
                 taken.step
             }
             None => {
                 let taken = self.take_input(now, buf);
-                self.settle(chosen, 1, taken.retry);
+                self.settle(chosen, taken.retry);
                 taken.step
             }
         }
@@ -335,7 +349,8 @@ impl<'a, R: Clock> Sockets<'a, R> {
     fn turn(&mut self, buf: &mut [u8]) -> Option<ServerStep>
         ensures lawful { IfLawful (standing self.old) (standing self.new) (length buf.new) result }
         ensures bounded { IfSome result (IsBounded (ready_in (line self.new)) (framings self.new) buf.new) }
-        ensures turn { TakesTurn (line self.old) (line self.new) }
+        ensures turns { HasTurns result (line self.old) (line self.new) }
+        ensures passes { IfNone result (Passes self.old self.new) }
     {
         let Ok(now) = Instant::now(self.rt) else {
             return Some(ServerStep::Failed(SourceFault::Clock));
@@ -357,11 +372,12 @@ impl<'a, R: Clock> Sockets<'a, R> {
     }
 
     // A step of the socket that has its turn. The system is asked for more after each round.
-    #[tactic(auto, using(crate::proofs::Orders::turn_of))]
     fn take_ready(&mut self, now: Instant, buf: &mut [u8]) -> Option<ServerStep>
         ensures lawful { IfLawful (standing self.old) (standing self.new) (length buf.new) result }
         ensures bounded { IfSome result (IsBounded (ready_in (line self.new)) (framings self.new) buf.new) }
-        ensures turn { TakesTurn (line self.old) (line self.new) }
+        ensures turns { HasTurns result (line self.old) (line self.new) }
+        ensures serves { 0 < self.old.round → ServesAny (line self.old) (line self.new) }
+        ensures asks { self.old.round ≡ 0 → IfNone result (Asks self.old self.new) }
     {
         let Some(round) = self.round.checked_sub(1) else {
             return self.ask(now);
@@ -377,6 +393,7 @@ impl<'a, R: Clock> Sockets<'a, R> {
     pub(crate) fn next_step(&mut self, buf: &mut [u8]) -> ServerStep
         ensures lawful { IsLawful (standing self.old) (standing self.new) (length buf.new) result }
         ensures bounded { IsBounded (ready_in (line self.new)) (framings self.new) buf.new result }
+        ensures turns { HasTurns (Some result) (line self.old) (line self.new) }
     {
         if buf.is_empty() {
             return ServerStep::Failed(SourceFault::NoRoom);

@@ -5,6 +5,7 @@
 
 mod add;
 mod lines;
+mod printed;
 mod read;
 mod system;
 mod system_disk;
@@ -12,6 +13,7 @@ mod verify;
 
 pub use add::add_to_store;
 pub use lines::{NoStore, report_damaged_file, report_file_error, report_no_store};
+pub use printed::{line_on, shown};
 pub use read::{read_store, report_read_fault};
 pub use system::{SystemFolder, Uninterrupted};
 pub use system_disk::{DraftFile, SystemDisk};

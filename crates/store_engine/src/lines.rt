@@ -6,6 +6,7 @@ ghost use Rattle.set_engine.specs.Ended.{TellsLine};
 ghost use Rattle.store_engine.specs.Lines.{damage_line, file_line, position_line};
 ghost use Rattle.store_engine.specs.NoStores.{IsOfMemory};
 
+use crate::printed::line_on;
 use archive_engine::report_archive_fault;
 use archive_text::ArchiveFault;
 use driver::{FAULT, NO_MEMORY, REFUSED, report};
@@ -136,16 +137,16 @@ fn is_of_memory(why: &NoStore) -> bool
     }
 }
 
-// Reports words, and why, and returns `FAULT`; or `NO_MEMORY` if memory runs out for the line.
+// Reports what failed, and why, and returns `FAULT`; or `NO_MEMORY` if memory runs out for the line.
 fn report_why<N: Output>(
     alloc: Global,
-    words: &str,
+    what: &str,
     why: impl Display + Drop,
     diagnostics: &mut N,
 ) -> u8
     ensures { (result ≡ FAULT) ⊎ (result ≡ NO_MEMORY) }
 {
-    match format!(in alloc; "{words}: {why}\n") {
+    match line_on(alloc, what, why) {
         Ok(line) => report(diagnostics, line.as_bytes(), FAULT),
         Err(_) => report(diagnostics, b"want of memory\n", NO_MEMORY),
     }

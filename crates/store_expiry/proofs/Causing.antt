@@ -4,8 +4,13 @@ use Rattle.std.specs.Prelude.{IsErrAnd, IsSomeAnd, Result, Ok, Err}
 use Rattle.disk.specs.Calls.{IsUnchanged}
 use Rattle.disk.specs.Memory.{shown_now}
 use Rattle.disk.specs.States.{Files, State}
+use Rattle.journal.specs.Journals.{KeepsOthers}
 use Rattle.octet_devices.specs.Device.{InputState}
+use Rattle.archive_text.specs.Entries.{Entry}
+use Rattle.archive_text.specs.Text.{text_of}
+use Rattle.archive_sets.specs.Selections.{IsSelection}
 use Rattle.record_store.specs.Names.{IsSegment}
+use Rattle.record_store.specs.Segments.{segment_name}
 use Rattle.store_reading.specs.Damages.{IsDamagedArchive, IsDamagedSegment, IsOtherDigest, OfLeft, Tells}
 use Rattle.store_reading.specs.Folders.{Opens}
 use Rattle.store_reading.specs.declared.fault.CheckFault.{CheckFault}
@@ -13,37 +18,29 @@ use Rattle.store_reading.specs.declared.fault.CheckFault.TheVariants.{Damaged as
 use Rattle.store_reading.specs.declared.fault.FileFault.{FileFault}
 use Rattle.store_reading.proofs.Hashed.{damaged_segment, other_digest}
 use Rattle.store_upkeep.specs.Compaction.{shown}
-use Rattle.store_expiry.specs.Causes.{Damage, IsDamagedFile, IsExpireCause, TellsCause, none_damaged}
-use Rattle.store_expiry.specs.Surveys.{IsSurveyed}
+use Rattle.store_expiry.specs.Causes.{HasOthers, IsDamagedFile, IsExpireCause, IsTaken, TellsCause}
+use Rattle.store_expiry.specs.Expired.{IsExpired}
+use Rattle.store_expiry.specs.Expiry.{expire_draft}
+use Rattle.store_expiry.specs.Surveys.{HasExpired, IsLeftOver, IsSurveyed}
 use Rattle.store_expiry.specs.declared.expired.Expired.{Expired}
 use Rattle.store_expiry.specs.declared.fault.ExpireFault.{ExpireFault}
 use Rattle.store_expiry.specs.declared.fault.ExpireFault.TheVariants.{Damaged, Store, Taken, Output}
 use Rattle.store_expiry.specs.declared.survey.Survey.{Survey}
+use Rattle.store_expiry.proofs.Changing.{expired_as, file_as, segment_apart}
 
 -- ---- what a fault tells
 
-pub fault_weaker : (told other : Damage) (a b : ℕ) (fault : ExpireFault)
-    → ((name : List ℕ) (damage : FileFault) → told name damage → other name damage) → IsExpireCause told a b fault
-    → IsExpireCause other a b fault
-fault_weaker told other a b (Damaged name damage) more cause = (more name damage cause.0, cause.1)
-fault_weaker told other a b (Store fault) more cause = cause
-fault_weaker told other a b (Taken name) more cause = cause
-fault_weaker told other a b Output more cause = cause
-
 -- behind a call at which the output did not fail
-pub fault_later : (told : Damage) (a b c : ℕ) (fault : ExpireFault) → b ≡ a → IsExpireCause told b c fault
-    → IsExpireCause told a c fault
-fault_later told a b c fault same cause = subst (λ (n : ℕ). IsExpireCause told n c fault) same cause
+pub fault_later : (x : Expired) (files : Files) (a b c : ℕ) (fault : ExpireFault) → b ≡ a
+    → IsExpireCause x files b c fault → IsExpireCause x files a c fault
+fault_later x files a b c fault same cause = subst (λ (n : ℕ). IsExpireCause x files n c fault) same cause
 
 -- a fault that is handed on
-pub cause_on : {A : Type 0} (told other : Damage) (a b c : ℕ) (r : Result A ExpireFault) (fault : ExpireFault)
-    → IsErrAnd r (λ y. y ≡ fault) → b ≡ a
-    → ((name : List ℕ) (damage : FileFault) → told name damage → other name damage) → IsExpireCause told b c fault
-    → TellsCause other a c r
-cause_on told other a b c (Ok x) fault is same more cause = absurd is
-cause_on told other a b c (Err y) fault is same more cause =
-    subst (IsExpireCause other a c) (sym is)
-    (fault_weaker told other a c fault more (fault_later told a b c fault same cause))
+pub cause_on : {A : Type 0} (x : Expired) (files : Files) (a b c : ℕ) (r : Result A ExpireFault) (fault : ExpireFault)
+    → IsErrAnd r (λ y. y ≡ fault) → b ≡ a → IsExpireCause x files b c fault → TellsCause x files a c r
+cause_on x files a b c (Ok value) fault is same cause = absurd is
+cause_on x files a b c (Err y) fault is same cause =
+    subst (IsExpireCause x files a c) (sym is) (fault_later x files a b c fault same cause)
 
 -- ---- a segment that is damaged
 
@@ -71,16 +68,94 @@ digest_damaged x files name period d e s fault opened segment v told =
     (λ file left. other_digest period name d e s.hex file
     (record { segment = v.segment; digest = v.is.digest }) left fault told)
 
--- which has not changed
-pub damaged_still : (old new : State) → IsUnchanged old new → (name : List ℕ) (damage : FileFault)
-    → IsDamagedFile (shown old) name damage → IsDamagedFile (shown new) name damage
-damaged_still old new same name damage d = record {
-  period = d.period;
-  segment = d.segment;
-  file = d.file;
-  there = ap shown_now (same.entries name) ∙ d.there;
-  damaged = d.damaged;
+-- ---- the segments are shown as they were
+
+module _ (x : Expired) (old new : State)
+    (same : (period name : List ℕ) → IsSegment period name → shown new name ≡ shown old name) where
+  damaged_still : (name : List ℕ) (damage : FileFault) → IsDamagedFile (shown old) name damage
+      → IsDamagedFile (shown new) name damage
+  damaged_still name damage d = record {
+    period = d.period;
+    segment = d.segment;
+    file = d.file;
+    there = same d.period name d.segment ∙ d.there;
+    damaged = d.damaged;
+  }
+
+  pub left_still : (period : List ℕ) (left : List Entry) → IsLeftOver x (shown old) period left
+      → IsLeftOver x (shown new) period left
+  left_still period left o = record {
+    source = o.source;
+    entries = o.entries;
+    whole = expired_as x (shown old) (shown new) o.source period o.entries
+        (same period o.source o.whole.is_file.segment) o.whole;
+    selection = o.selection;
+  }
+
+  taken_still : (name : List ℕ) → IsTaken x (shown old) name → IsTaken x (shown new) name
+  taken_still name t = record {
+    period = t.period;
+    left = t.left;
+    over = left_still t.period t.left t.over;
+    named = t.named;
+    others = record {
+      entries = t.others.entries;
+      is_file = file_as (shown old) (shown new) name t.period t.others.entries
+          (same t.period name t.others.is_file.segment) t.others.is_file;
+      other = t.others.other;
+      has = t.others.has;
+      lacks = t.others.lacks;
+    };
+  }
+
+  pub fault_still : (a b : ℕ) (fault : ExpireFault) → IsExpireCause x (shown old) a b fault
+      → IsExpireCause x (shown new) a b fault
+  fault_still a b (Damaged name damage) cause = (damaged_still name damage cause.0, cause.1)
+  fault_still a b (Store fault) cause = cause
+  fault_still a b (Taken name) cause = (taken_still name cause.0, cause.1)
+  fault_still a b Output cause = cause
+
+pub fault_same : (x : Expired) (old new : State) → IsUnchanged old new → (a b : ℕ) (fault : ExpireFault)
+    → IsExpireCause x (shown old) a b fault → IsExpireCause x (shown new) a b fault
+fault_same x old new same a b fault cause =
+    fault_still x old new (λ period name segment. ap shown_now (same.entries name)) a b fault cause
+
+pub fault_back : (x : Expired) (old new : State) → IsUnchanged old new → (a b : ℕ) (fault : ExpireFault)
+    → IsExpireCause x (shown new) a b fault → IsExpireCause x (shown old) a b fault
+fault_back x old new same a b fault cause =
+    fault_still x new old (λ period name segment. sym (ap shown_now (same.entries name))) a b fault cause
+
+pub aside_same : (old new : State) → KeepsOthers old new expire_draft → (period name : List ℕ) → IsSegment period name
+    → shown new name ≡ shown old name
+aside_same old new others period name segment = ap shown_now (others name (segment_apart period name segment))
+
+pub fault_aside : (x : Expired) (old new : State) → KeepsOthers old new expire_draft → (a b : ℕ) (fault : ExpireFault)
+    → IsExpireCause x (shown old) a b fault → IsExpireCause x (shown new) a b fault
+fault_aside x old new others a b fault cause = fault_still x old new (aside_same old new others) a b fault cause
+
+-- a name that is taken
+pub taken_back : (x : Expired) (old new : State) → IsUnchanged old new → (name period : List ℕ) (left : List Entry)
+    → IsLeftOver x (shown old) period left → name ≡ segment_name period (text_of left)
+    → HasOthers (shown new) name period left → IsTaken x (shown old) name
+taken_back x old new same name period left over named others = record {
+  period = period;
+  left = left;
+  over = over;
+  named = named;
+  others = record {
+    entries = others.entries;
+    is_file = file_as (shown new) (shown old) name period others.entries
+        (sym (ap shown_now (same.entries name))) others.is_file;
+    other = others.other;
+    has = others.has;
+    lacks = others.lacks;
+  };
 }
 
-pub none_then : (other : Damage) (name : List ℕ) (damage : FileFault) → none_damaged name damage → other name damage
-none_then other name damage none = absurd none
+-- what was drafted of a segment
+pub left_over : (x : Expired) (old new : State) (source period : List ℕ) (es left : List Entry)
+    → KeepsOthers old new expire_draft → HasExpired x (shown old) source period es
+    → IsSelection (λ e. ¬ (IsExpired x e)) es left → IsLeftOver x (shown new) period left
+left_over x old new source period es left others whole selection =
+    left_still x old new (aside_same old new others) period left
+    (record { source = source; entries = es; whole = whole; selection = selection })

@@ -18,7 +18,7 @@ use Rattle.store_upkeep.proofs.Verdicts.{day_named}
 use Rattle.store_expiry.specs.Expired.{IsExpired}
 use Rattle.store_expiry.specs.Expiry.{IsClear}
 use Rattle.store_expiry.specs.Lines.{WritesAll}
-use Rattle.store_expiry.specs.Surveys.{IsFoundAt, IsSurveyedAt}
+use Rattle.store_expiry.specs.Surveys.{IsFoundAt, IsSurveyedAt, IsWholeOrUnexpired}
 use Rattle.store_expiry.specs.declared.expired.Expired.{Expired}
 use Rattle.store_expiry.specs.declared.survey.Found.{Found}
 use Rattle.store_expiry.specs.declared.survey.Survey.{Survey}
@@ -43,6 +43,16 @@ pub clear_unnamed : (x : Expired) (files : Files) (name : List ℕ)
     → ((period : List ℕ) → IsPeriodText period → IsSegment period name → ⊥) → IsClear x files name
 clear_unnamed x files name none period e segment held expired =
     none period (text_of_period period e (held_of_period period name (files name) e segment held)) segment
+
+-- and it is none that is damaged
+pub whole_unnamed : (x : Expired) (files : Files) (name : List ℕ)
+    → ((period : List ℕ) → IsPeriodText period → IsSegment period name → ⊥) → IsWholeOrUnexpired x files name
+whole_unnamed x files name none period dated segment = absurd (none period dated segment)
+
+pub whole_spared : (x : Expired) (files : Files) (name : List ℕ)
+    → ((period : List ℕ) → IsSegment period name → (e : Entry) → IsOfPeriod period e → ¬ (IsExpired x e))
+    → IsWholeOrUnexpired x files name
+whole_spared x files name spares period dated segment = inr (spares period segment)
 
 -- no record of its period is expired
 pub clear_spared : (x : Expired) (files : Files) (name : List ℕ)

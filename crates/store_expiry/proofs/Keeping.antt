@@ -1,17 +1,28 @@
 -- What is left of a segment is put beside it.
-use Rattle.std.proofs.Common.{ℕ, List}
-use Rattle.disk.specs.States.{State}
+use Rattle.std.proofs.Common.{◌≡◌, ℕ, List, ◌∙◌}
+use Rattle.disk.specs.States.{Files, State}
 use Rattle.journal.specs.Journals.{IsOnDisk, IsSound, KeepsOthers}
 use Rattle.archive_text.specs.Entries.{Entry}
 use Rattle.archive_text.specs.Text.{text_of}
 use Rattle.record_store.specs.Segments.{IsSegmentOf}
 use Rattle.store_upkeep.specs.Compaction.{MayBePlaced, shown}
 use Rattle.store_expiry.specs.Expiry.{IsReadyRest, IsSpared, NoneIsGone, Places, Sheds, expire_draft}
-use Rattle.store_expiry.specs.Surveys.{IsFoundAt}
+use Rattle.store_expiry.specs.Surveys.{HasExpired, IsFoundAt, SomeExpired}
 use Rattle.store_expiry.specs.declared.expired.Expired.{Expired}
 use Rattle.store_expiry.specs.declared.survey.Found.{Found}
-use Rattle.store_expiry.proofs.Resting.{rest_archive, rest_may_be_placed}
+use Rattle.store_expiry.proofs.Changing.{rest_archive}
+use Rattle.store_expiry.proofs.Resting.{rest_may_be_placed}
 use Rattle.store_expiry.proofs.Shedding.{placed_none_gone, placed_sheds, placed_spared}
+
+-- what was found of a segment
+pub found_expired : (x : Expired) (files : Files) (name : List ℕ) (found : Found) (f : IsFoundAt x files name found)
+    → HasExpired x files name found.period f.surveyed.entries
+found_expired x files name found f = record { is_file = f.surveyed.is_file; some = f.surveyed.is.tally.some f.some }
+
+-- the draft is removed
+pub draft_aside : (old new : State) (draft : List ℕ) → draft ≡ expire_draft → KeepsOthers old new draft
+    → KeepsOthers old new expire_draft
+draft_aside old new draft is others other apart = others other (λ to. apart (to ∙ is))
 
 module _ (x : Expired) (zero one new : State) (source draft name : List ℕ) (found : Found)
     (f : IsFoundAt x (shown zero) source found) (aside : KeepsOthers zero one expire_draft)
@@ -20,6 +31,9 @@ module _ (x : Expired) (zero one new : State) (source draft name : List ℕ) (fo
     → Places one new draft name text) where
   abbrev es : List Entry
   es = f.surveyed.entries
+
+  some : SomeExpired x es
+  some = f.surveyed.is.tally.some f.some
 
   abbrev left : List Entry
   left = ready.rest.left
@@ -35,13 +49,13 @@ module _ (x : Expired) (zero one new : State) (source draft name : List ℕ) (fo
 
   pub keeps_sheds : Sheds x zero new
   keeps_sheds =
-      placed_sheds x zero one new source draft name found.period es f.surveyed.is_file f.dated aside ready archive
-      places
+      placed_sheds x zero one new source draft name found.period es f.surveyed.is_file some f.dated aside ready
+      archive places
 
   pub keeps_stay : NoneIsGone x zero new
   keeps_stay =
-      placed_none_gone x zero one new source draft name found.period es f.surveyed.is_file f.dated aside ready archive
-      places
+      placed_none_gone x zero one new source draft name found.period es f.surveyed.is_file some f.dated aside ready
+      archive places
 
   module _ (placed : (period text : List ℕ) (es : List Entry) → MayBePlaced one draft name period text es
       → IsOnDisk new name text) where
@@ -53,6 +67,5 @@ module _ (x : Expired) (zero one new : State) (source draft name : List ℕ) (fo
 
     pub keeps_spared : IsSpared x new source
     keeps_spared =
-        let some = f.surveyed.is.tally.some f.some in
-        placed_spared x zero one new source draft name found.period es f.surveyed.is_file f.dated aside ready archive
-        places on_disk some.some some.has some.expired
+        placed_spared x zero one new source draft name found.period es f.surveyed.is_file some f.dated aside ready
+        archive places on_disk

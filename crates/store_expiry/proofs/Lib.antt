@@ -1,4 +1,6 @@
+pub mod Apart
 pub mod Causing
+pub mod Changing
 pub mod Clearing
 pub mod Finding
 pub mod Hours
@@ -8,3 +10,4 @@ pub mod Shedding
 pub mod Surveying
 pub mod Taking
 pub mod Telling
+pub mod Turning

@@ -13,15 +13,14 @@ use Rattle.octet_devices.specs.Device.{InputState}
 use Rattle.archive_text.specs.Entries.{Entry}
 use Rattle.archive_text.specs.Text.{IsArchive, text_of}
 use Rattle.archive_text.specs.declared.limits.TheConstants.{ENTRY_MAX}
-use Rattle.archive_text.proofs.Members.{of_all, of_member}
 use Rattle.archive_text.proofs.Texts.{same_text}
 use Rattle.archive_streams.specs.Entries.{IsWhole}
 use Rattle.archive_sets.specs.Selected.{Selected}
 use Rattle.archive_sets.specs.Selections.{IsSelection}
 use Rattle.archive_sets.proofs.SelectionLaws.{selection_archive}
-use Rattle.record_store.specs.Holdings.{HeldAt, IsOfPeriod}
+use Rattle.record_store.specs.Holdings.{HeldAt}
 use Rattle.record_store.specs.Names.{Counts, IsSegment}
-use Rattle.record_store.specs.Segments.{IsSegmentOf, ShowsNoMore, segment_name}
+use Rattle.record_store.specs.Segments.{ShowsNoMore, segment_name}
 use Rattle.record_store.proofs.Drafted.{segment_has}
 use Rattle.record_store.proofs.Placed.{put_others}
 use Rattle.record_store.proofs.Remaining.{put_shows, rename_shows}
@@ -30,10 +29,10 @@ use Rattle.store_reading.proofs.Joined.{rest_of, whole_rest}
 use Rattle.store_upkeep.specs.Compaction.{MayBePlaced, shown}
 use Rattle.store_upkeep.proofs.SameSets.{place_set, rename_fails_others, rename_fails_set, renamed}
 use Rattle.store_expiry.specs.Expired.{IsExpired}
-use Rattle.store_expiry.specs.Expiry.{IsReadyRest, IsRestOf, Places, expire_draft}
-use Rattle.store_expiry.specs.Surveys.{IsSegmentFile}
+use Rattle.store_expiry.specs.Expiry.{IsFree, IsReadyRest, IsRestOf, Places, expire_draft}
+use Rattle.store_expiry.specs.Surveys.{IsArchiveAt, IsNoneOrWhole, IsSegmentFile}
 use Rattle.store_expiry.specs.declared.expired.Expired.{Expired}
-use Rattle.store_expiry.proofs.Shedding.{draft_apart, segment_apart}
+use Rattle.store_expiry.proofs.Changing.{draft_apart, free_as, rest_archive, segment_apart}
 
 -- ---- what was selected
 
@@ -96,43 +95,59 @@ unchanged_then a b c one two = record {
   lost = two.lost ∙ one.lost;
 }
 
+-- then it was removed
+pub others_dropped : (a b c d : State) (draft name : List ℕ) → draft ≡ name → KeepsOthers a b draft → IsUnchanged b c
+    → KeepsOthers c d draft → KeepsOthers a d name
+others_dropped a b c d draft name is first same last other apart =
+    last other (λ to. apart (to ∙ is)) ∙ same.entries other ∙ first other (λ to. apart (to ∙ is))
+
+pub others_after : (b c d : State) (draft name : List ℕ) → draft ≡ name → IsUnchanged b c → KeepsOthers c d draft
+    → KeepsOthers b d name
+others_after b c d draft name is same last other apart =
+    last other (λ to. apart (to ∙ is)) ∙ same.entries other
+
 -- ---- its name
 
-module _ (x : Expired) (one two three : State) (draft name period : List ℕ) (es : List Entry)
-    (rest : IsRestOf x one draft es) (is_draft : draft ≡ expire_draft) (named : IsUnchanged one two)
-    (compared : IsUnchanged two three) (segment : IsSegment period name) where
-  pub ready_rest : ((text : List ℕ) → shown one draft ≡ Some text → name ≡ segment_name period text)
-      → ((left : List Entry) → IsArchive ENTRY_MAX left → shown two draft ≡ Some (text_of left)
-      → ShowsNoMore two name left)
-      → IsArchive ENTRY_MAX es → IsReadyRest x three draft name period es
-  ready_rest names free archive =
-      let shows_two = shows_still one two draft (settled (text_of rest.left)) named rest.draft_is in
-      let no_more = free rest.left
-      (selection_archive (λ y. ¬ (IsExpired x y)) ENTRY_MAX es rest.left archive rest.selection)
-      (shown_of two draft (text_of rest.left) shows_two) in
-      record {
-        rest = record {
-          left = rest.left;
-          draft_is = shows_still two three draft (settled (text_of rest.left)) compared shows_two;
-          selection = rest.selection;
-        };
-        is_draft = is_draft;
-        segment = segment;
-        named = names (text_of rest.left) (shown_of one draft (text_of rest.left) rest.draft_is);
-        no_more = λ e held. no_more e (subst (λ (o : Option (List ℕ)). HeldAt name o e)
-            (ap shown_now (compared.entries name)) held);
-      }
+module _ (x : Expired) (one two : State) (draft name period : List ℕ) (es : List Entry)
+    (rest : IsRestOf x one draft es) (is_draft : draft ≡ expire_draft) (same : IsUnchanged one two)
+    (archive : IsArchive ENTRY_MAX es) where
+  -- what was drafted is an archive
+  pub rest_there : IsArchiveAt (shown one) draft rest.left
+  rest_there = record {
+    archive = selection_archive (λ y. ¬ (IsExpired x y)) ENTRY_MAX es rest.left archive rest.selection;
+    file = shown_of one draft (text_of rest.left) rest.draft_is;
+  }
+
+  pub ready_rest : IsFree one name period rest.left → IsReadyRest x two draft name period es
+  ready_rest free = record {
+    rest = record {
+      left = rest.left;
+      draft_is = shows_still one two draft (settled (text_of rest.left)) same rest.draft_is;
+      selection = rest.selection;
+    };
+    is_draft = is_draft;
+    free = record {
+      segment = free.segment;
+      named = free.named;
+      no_more = λ e held. free.no_more e (subst (λ (o : Option (List ℕ)). HeldAt name o e)
+          (ap shown_now (same.entries name)) held);
+      whole = free_as (shown one) (shown two) name (ap shown_now (same.entries name)) free.whole;
+    };
+  }
+
+-- a name that is free
+pub name_free : (zero one : State) (name period : List ℕ) (left : List Entry) → IsUnchanged zero one
+    → IsSegment period name → name ≡ segment_name period (text_of left)
+    → ShowsNoMore one name left × IsNoneOrWhole (shown one) name → IsFree zero name period left
+name_free zero one name period left same segment named free = record {
+  segment = segment;
+  named = named;
+  no_more = λ e held. free.0 e (subst (λ (o : Option (List ℕ)). HeldAt name o e)
+      (sym (ap shown_now (same.entries name))) held);
+  whole = free_as (shown one) (shown zero) name (sym (ap shown_now (same.entries name))) free.1;
+}
 
 -- ---- it may be given
-
-pub rest_archive : (x : Expired) (period : List ℕ) (es left : List Entry) → IsSegmentOf period (text_of es) es
-    → IsSelection (λ y. ¬ (IsExpired x y)) es left → IsSegmentOf period (text_of left) left
-rest_archive x period es left is selection = record {
-  archive = selection_archive (λ y. ¬ (IsExpired x y)) ENTRY_MAX es left is.archive selection;
-  text_is = refl;
-  days = of_all (IsOfPeriod period) left
-      (λ e has. of_member (IsOfPeriod period) es e is.days ((selection.members e).0 has).0);
-}
 
 pub rest_may_be_placed : (x : Expired) (zero one : State) (source draft name period : List ℕ) (es : List Entry)
     (file : IsSegmentFile (shown zero) source period es) → KeepsOthers zero one expire_draft
@@ -141,10 +156,10 @@ pub rest_may_be_placed : (x : Expired) (zero one : State) (source draft name per
 rest_may_be_placed x zero one source draft name period es file aside ready = record {
   draft_is = ready.rest.draft_is;
   apart = λ counts. draft_apart (subst Counts ready.is_draft counts);
-  segment = ready.segment;
-  named = ready.named;
+  segment = ready.free.segment;
+  named = ready.free.named;
   archive = rest_archive x period es ready.rest.left file.archive ready.rest.selection;
-  no_more = ready.no_more;
+  no_more = ready.free.no_more;
   held = λ e has. record {
     name = source;
     at = subst (λ (o : Option (List ℕ)). HeldAt source o e)

@@ -1,10 +1,10 @@
 -- Steps after which a disk holds less.
-use Rattle.std.proofs.Common.{◌≡◌, ◌≢◌, ◌⊎◌, inl, inr, ⊎_elim, ℕ, List, ◌∷◌, ◌++◌, refl, sym, ap, subst, ◌∙◌}
-use Rattle.std.proofs.Common.{arith, get_or, length, length-append}
-use Rattle.std.specs.Prelude.{Option, None, Some, IsSome, Result, Ok, Err, codes}
-use Rattle.disk.specs.Calls.{IsUnchanged, Removes, RemovesFile}
+use Rattle.std.proofs.Common.{◌≡◌, ◌≢◌, ◌⊎◌, inl, inr, ⊎_elim, ℕ, List, refl, sym, ap, subst, ◌∙◌}
+use Rattle.std.proofs.Common.{Bool, false, if◌then◌else◌}
+use Rattle.std.specs.Prelude.{Option, None, Some, IsSome, Result, Ok, Err}
+use Rattle.disk.specs.Calls.{IsUnchanged, Removes, RemovesFile, SettlesNames, SyncsNames}
 use Rattle.disk.specs.Memory.{shown_now}
-use Rattle.disk.specs.States.{Entry as DiskEntry, Files, NameMayLeave, State}
+use Rattle.disk.specs.States.{Entry as DiskEntry, Files, NameMayLeave, State, kept}
 use Rattle.disk.specs.declared.fault.DiskFault.{DiskFault}
 use Rattle.journal.specs.Journals.{IsOnDisk, KeepsOthers}
 use Rattle.archive_text.specs.Entries.{Entry, Has}
@@ -15,32 +15,20 @@ use Rattle.record_store.specs.Names.{Counts, IsSegment}
 use Rattle.record_store.specs.Segments.{IsSegmentOf}
 use Rattle.record_store.proofs.Covering.{with-here, with-other, with_file}
 use Rattle.record_store.proofs.Drafted.{segment_has, segment_no_more}
-use Rattle.record_store.proofs.Leavings.{only_is, settled_shown, shown_left}
+use Rattle.record_store.proofs.Leavings.{none_kept, only_is, resting_is, settled_may, settled_shown, shown_left}
 use Rattle.record_store.proofs.Named.{same_or_apart}
+use Rattle.record_store.proofs.Placed.{settled_either}
 use Rattle.store_reading.specs.Days.{IsPeriodText}
 use Rattle.store_upkeep.specs.Compaction.{shown}
 use Rattle.store_upkeep.proofs.SameSets.{aside_set, retired_leaves}
 use Rattle.store_expiry.specs.Expired.{IsExpired}
-use Rattle.store_expiry.specs.Expiry.{AreLeft, InSegments, IsBeside, IsClear, IsReadyRest, IsSpared, NoneIsGone, Places}
-use Rattle.store_expiry.specs.Expiry.{Sheds, StaysAt, expire_draft}
-use Rattle.store_expiry.specs.Surveys.{IsSegmentFile}
+use Rattle.store_expiry.specs.Expiry.{AreLeft, ChangesAt, InSegments, IsBeside, IsClear, IsGone, IsReadyRest}
+use Rattle.store_expiry.specs.Expiry.{IsRestAt, IsSpared, KeepsOrSettles, NoneIsGone, Places, Sheds, StaysAt}
+use Rattle.store_expiry.specs.Expiry.{expire_draft}
+use Rattle.store_expiry.specs.Surveys.{HasExpired, IsSegmentFile, IsWholeOrUnexpired, SomeExpired}
 use Rattle.store_expiry.specs.declared.expired.Expired.{Expired}
-
--- ---- the draft counts for nothing
-
-pub draft_apart : ¬ (Counts expire_draft)
-draft_apart (inl journal) = omega (arith, ap (λ (l : List ℕ). get_or l 0 0) journal.name_is)
-draft_apart (inr (period, segment)) =
-    omega (
-      arith,
-      ap length segment.name_is,
-      length-append (period ++ 46 ∷ segment.digest) (codes ".archive"),
-      length-append period (46 ∷ segment.digest),
-      segment.long,
-    )
-
-pub segment_apart : (period name : List ℕ) → IsSegment period name → name ≢ expire_draft
-segment_apart period name segment is = draft_apart (inr (period, subst (IsSegment period) is segment))
+use Rattle.store_expiry.proofs.Changing.{changed_clear, clear_as, draft_apart, file_as, segment_apart, then_changes}
+use Rattle.store_expiry.proofs.Changing.{whole_before}
 
 -- ---- steps behind one another
 
@@ -51,38 +39,37 @@ fewer x state committed received left are keeps = record {
   nothing_forged = keeps.nothing_forged;
 }
 
--- the same file is as clear
-pub clear_as : (x : Expired) (one other : Files) (name : List ℕ) → other name ≡ one name → IsClear x one name
-    → IsClear x other name
-clear_as x one other name same clear period e segment held =
-    clear period e segment (subst (λ (o : Option (List ℕ)). HeldAt name o e) same held)
-
 pub then_sheds : (x : Expired) (a b c : State) → Sheds x a b → Sheds x b c → Sheds x a c
 then_sheds x a b c one two = record {
   kept = λ committed received left are keeps. two.kept left received left (λ e has. (has, (are e has).1))
       (one.kept committed received left are keeps);
   stays = λ e not held. two.stays e not (one.stays e not held);
   no_more = λ e held. one.no_more e (two.no_more e held);
-  changes = λ name. both name (two.changes name) (one.changes name);
+  changes = λ name apart. then_changes x (shown a) (shown b) (shown c) one.changes name (one.changes name apart)
+      (two.changes name apart);
   others = λ name differs not. two.others name differs not ∙ one.others name differs not;
 }
-  where
-    both : (name : List ℕ) → (shown c name ≡ shown b name) ⊎ IsClear x (shown c) name
-        → (shown b name ≡ shown a name) ⊎ IsClear x (shown b) name
-        → (shown c name ≡ shown a name) ⊎ IsClear x (shown c) name
-    both name (inr clear) before = inr clear
-    both name (inl same) (inl was) = inl (same ∙ was)
-    both name (inl same) (inr clear) = inr (clear_as x (shown b) (shown c) name same clear)
+
+-- what is another now is clear
+pub sheds_clear : (x : Expired) (old new : State) → Sheds x old new → (name : List ℕ)
+    → (shown new name ≡ shown old name) ⊎ IsClear x (shown new) name
+sheds_clear x old new sheds name = ⊎_elim
+    (λ is. inr (λ period e segment held. absurd (segment_apart period name segment is)))
+    (λ apart. changed_clear x (shown old) (shown new) name (sheds.changes name apart))
+    (same_or_apart name expire_draft)
 
 -- what is clear stays so
 pub clear_still : (x : Expired) (old new : State) (name : List ℕ) → Sheds x old new → IsClear x (shown old) name
     → IsClear x (shown new) name
 clear_still x old new name sheds clear =
-    ⊎_elim (λ same. clear_as x (shown old) (shown new) name same clear) (λ now. now) (sheds.changes name)
+    ⊎_elim (λ same. clear_as x (shown old) (shown new) name same clear) (λ now. now) (sheds_clear x old new sheds name)
 
-pub clear_none : (x : Expired) (files : Files) (name : List ℕ) → files name ≡ None → IsClear x files name
-clear_none x files name none period e segment held =
-    absurd (subst (λ (o : Option (List ℕ)). HeldAt name o e) none held)
+-- what is whole was whole before
+pub whole_then : (x : Expired) (old new : State) (name : List ℕ) → Sheds x old new
+    → IsWholeOrUnexpired x (shown new) name → IsWholeOrUnexpired x (shown old) name
+whole_then x old new name sheds whole period dated segment =
+    whole_before x (shown old) (shown new) name (sheds.changes name (segment_apart period name segment)) whole period
+    dated segment
 
 -- ---- the draft changes alone
 
@@ -106,10 +93,7 @@ module _ (x : Expired) (old new : State) (others : KeepsOthers old new expire_dr
       segment = h.segment;
       at = subst (λ (o : Option (List ℕ)). HeldAt h.name o e) (same_segment h.period h.name h.segment) h.at;
     };
-    changes = λ name. ⊎_elim
-        (λ is. inr (λ period e segment held. absurd (segment_apart period name segment is)))
-        (λ apart. inl (ap shown_now (others name apart)))
-        (same_or_apart name expire_draft);
+    changes = λ name apart. inl (ap shown_now (others name apart));
     others = λ name differs not. ap shown_now (others name differs);
   }
 
@@ -125,6 +109,55 @@ unchanged_sheds x old new same = aside_sheds x old new (λ other apart. same.ent
 pub unchanged_stays : (x : Expired) (old new : State) → IsUnchanged old new → NoneIsGone x old new
 unchanged_stays x old new same period name segment = inl (ap shown_now (same.entries name))
 
+-- ---- names are brought to the disk
+
+module _ (x : Expired) (old new : State) (settles : KeepsOrSettles old new) where
+  pub settled_same : (name : List ℕ) → shown new name ≡ shown old name
+  settled_same name = settled_shown (old.entries name) (new.entries name) (settles name)
+
+  left_before : (after : Files) → MayLeaveCounted new after → MayLeaveCounted old after
+  left_before after may name counts =
+      settled_may (old.entries name) (new.entries name) (after name) (settles name) (may name counts)
+
+  pub settled_sheds : Sheds x old new
+  settled_sheds = record {
+    kept = λ committed received left are keeps. fewer x new committed received left are (record {
+      nothing_lost = λ after may e has. keeps.nothing_lost after (left_before after may) e has;
+      nothing_forged = λ after may e held. keeps.nothing_forged after (left_before after may) e held;
+    });
+    stays = λ e not h. record {
+      name = h.name;
+      period = h.period;
+      segment = h.segment;
+      at = subst (λ (o : Option (List ℕ)). HeldAt h.name o e) (sym (settled_same h.name)) h.at;
+    };
+    no_more = λ e h. record {
+      name = h.name;
+      period = h.period;
+      segment = h.segment;
+      at = subst (λ (o : Option (List ℕ)). HeldAt h.name o e) (settled_same h.name) h.at;
+    };
+    changes = λ name apart. inl (settled_same name);
+    others = λ name differs not. settled_same name;
+  }
+
+-- the folder was synced, or that failed
+pub sync_settles : {T : Type 0} (old new : State) (r : Result T DiskFault) → SyncsNames old new r
+    → KeepsOrSettles old new
+sync_settles old new (Ok done) settles name = settled_either old new name settles
+sync_settles old new (Err fault) (inl same) name = inl (same.entries name)
+sync_settles old new (Err fault) (inr loses) name = inl (loses.entries name)
+
+-- once it is synced nothing is left under a name that shows no file
+pub settled_gone : (old new : State) (name : List ℕ) → SettlesNames old new → old.lost ≡ false
+    → shown new name ≡ None → IsGone new name
+settled_gone old new name settles sound none octets may =
+    let is : new.entries name ≡ kept (old.entries name) = settles.entries name
+    ∙ ap (λ (b : Bool). if b then old.entries name else kept (old.entries name)) sound in
+    let was : shown old name ≡ None = sym (ap shown_now is) ∙ none in
+    resting_is None octets
+    (subst (λ (e : DiskEntry). NameMayLeave e octets) (is ∙ none_kept (old.entries name) was) may)
+
 pub stays_then : (x : Expired) (a b c : State) (name : List ℕ) → StaysAt x a b name → StaysAt x b c name
     → StaysAt x a c name
 stays_then x a b c name (inl was) (inl same) = inl (same ∙ was)
@@ -135,7 +168,7 @@ stays_then x a b c name (inr was) (inr now) = inr (was.0, now.1)
 -- ---- what is left gets its name
 
 module _ (x : Expired) (zero old new : State) (source draft name period : List ℕ) (es : List Entry)
-    (file : IsSegmentFile (shown zero) source period es) (dated : IsPeriodText period)
+    (file : IsSegmentFile (shown zero) source period es) (expired : SomeExpired x es) (dated : IsPeriodText period)
     (aside : KeepsOthers zero old expire_draft) (ready : IsReadyRest x old draft name period es)
     (archive : IsSegmentOf period (text_of ready.rest.left) ready.rest.left)
     (places : Places old new draft name (text_of ready.rest.left)) where
@@ -158,7 +191,7 @@ module _ (x : Expired) (zero old new : State) (source draft name period : List �
       (λ (same : shown new name ≡ shown old name). subst (λ (o : Option (List ℕ)). HeldAt name o e) (sym same) here)
       (λ (text : shown new name ≡ Some (text_of left)).
       subst (λ (o : Option (List ℕ)). HeldAt name o e) (sym text)
-      (segment_has name period (text_of left) left ready.segment archive e (ready.no_more e here)))
+      (segment_has name period (text_of left) left ready.free.segment archive e (ready.free.no_more e here)))
       places.shows
 
   placed_stays : (e : Entry) → InSegments (shown old) e → InSegments (shown new) e
@@ -166,8 +199,8 @@ module _ (x : Expired) (zero old new : State) (source draft name period : List �
       (λ (is : h.name ≡ name). record {
         name = name;
         period = period;
-        segment = ready.segment;
-        at = stays_at e h.name (subst (IsSegment period) (sym is) ready.segment) is h.at;
+        segment = ready.free.segment;
+        at = stays_at e h.name (subst (IsSegment period) (sym is) ready.free.segment) is h.at;
       })
       (λ (apart : h.name ≢ name). record {
         name = h.name;
@@ -180,7 +213,7 @@ module _ (x : Expired) (zero old new : State) (source draft name period : List �
 
   has_left : (e : Entry) → shown new name ≡ Some (text_of left) → HeldAt name (shown new name) e → Has left e
   has_left e text held =
-      segment_no_more name period (text_of left) left ready.segment archive e
+      segment_no_more name period (text_of left) left ready.free.segment archive e
       (subst (λ (o : Option (List ℕ)). HeldAt name o e) text held)
 
   from_source : (e : Entry) → Has left e → InSegments (shown old) e
@@ -201,7 +234,7 @@ module _ (x : Expired) (zero old new : State) (source draft name period : List �
       (λ (same : shown new name ≡ shown old name). record {
         name = name;
         period = period;
-        segment = ready.segment;
+        segment = ready.free.segment;
         at = subst (λ (o : Option (List ℕ)). HeldAt name o e) same here;
       })
       (λ (text : shown new name ≡ Some (text_of left)). from_source e (has_left e text here))
@@ -215,19 +248,29 @@ module _ (x : Expired) (zero old new : State) (source draft name period : List �
       })
       (same_or_apart h.name name)
 
-  name_clear : shown new name ≡ Some (text_of left) → IsClear x (shown new) name
-  name_clear text p e segment held = ((ready.rest.selection.members e).0 (has_left e text held)).1
+  source_whole : HasExpired x (shown old) source period es
+  source_whole = record {
+    is_file = file_as (shown zero) (shown old) source period es (source_was ∙ sym file.file) file;
+    some = expired;
+  }
 
-  placed_changes : (other : List ℕ) → (shown new other ≡ shown old other) ⊎ IsClear x (shown new) other
-  placed_changes other = ⊎_elim
-      (λ (is : other ≡ name). ⊎_elim
-      (λ (same : shown new name ≡ shown old name). inl (subst (λ (n : List ℕ). shown new n ≡ shown old n) (sym is) same))
-      (λ text. inr (subst (IsClear x (shown new)) (sym is) (name_clear text)))
-      places.shows)
-      (λ (to : other ≢ name). ⊎_elim
-      (λ is. inr (λ p e segment held. absurd (segment_apart p other segment is)))
-      (λ from. inl (still other from to))
-      (same_or_apart other expire_draft))
+  rest_at : shown new name ≡ Some (text_of left) → IsRestAt x (shown old) (shown new) name
+  rest_at text = record {
+    period = period;
+    left = left;
+    over = record { source = source; entries = es; whole = source_whole; selection = ready.rest.selection };
+    segment = ready.free.segment;
+    named = ready.free.named;
+    file = text;
+  }
+
+  placed_changes : (other : List ℕ) → other ≢ expire_draft → ChangesAt x (shown old) (shown new) other
+  placed_changes other from = ⊎_elim
+      (λ (is : other ≡ name). subst (ChangesAt x (shown old) (shown new)) (sym is) (⊎_elim
+      (λ (same : shown new name ≡ shown old name). inl same)
+      (λ (text : shown new name ≡ Some (text_of left)). inr (inr (ready.free.whole, rest_at text)))
+      places.shows))
+      (λ (to : other ≢ name). inl (still other from to))
       (same_or_apart other name)
 
   placed_sheds_here : Sheds x old new
@@ -237,14 +280,14 @@ module _ (x : Expired) (zero old new : State) (source draft name period : List �
     stays = λ e not h. placed_stays e h;
     no_more = placed_no_more;
     changes = placed_changes;
-    others = λ other differs not. still other differs (λ is. not period dated (subst (IsSegment period) (sym is) ready.segment));
+    others = λ other differs not. still other differs (λ is. not period dated (subst (IsSegment period) (sym is) ready.free.segment));
   }
 
   pub placed_sheds : Sheds x zero new
   placed_sheds = then_sheds x zero old new (aside_sheds x zero old aside) placed_sheds_here
 
   was_clear : IsClear x (shown old) name
-  was_clear p e segment held = ((ready.rest.selection.members e).0 (ready.no_more e held)).1
+  was_clear p e segment held = ((ready.rest.selection.members e).0 (ready.free.no_more e held)).1
 
   stays_named : StaysAt x old new name
   stays_named = ⊎_elim
@@ -260,16 +303,15 @@ module _ (x : Expired) (zero old new : State) (source draft name period : List �
       (λ apart. inl (still other (segment_apart p other segment) apart))
       (same_or_apart other name))
 
-  module _ (on_disk : IsOnDisk new name (text_of ready.rest.left)) (some : Entry) (has : Has es some)
-      (expired : IsExpired x some) where
+  module _ (on_disk : IsOnDisk new name (text_of ready.rest.left)) where
     -- the old one has an entry that is not left
     name_apart : name ≢ source
     name_apart is =
-        let held : HeldAt name (shown old name) some =
-        subst (λ (n : List ℕ). HeldAt n (shown old n) some) (sym is)
-        (subst (λ (o : Option (List ℕ)). HeldAt source o some) (sym source_was)
-        (segment_has source period (text_of es) es file.segment file.archive some has)) in
-        ((ready.rest.selection.members some).0 (ready.no_more some held)).1 expired
+        let held : HeldAt name (shown old name) expired.some =
+        subst (λ (n : List ℕ). HeldAt n (shown old n) expired.some) (sym is)
+        (subst (λ (o : Option (List ℕ)). HeldAt source o expired.some) (sym source_was)
+        (segment_has source period (text_of es) es file.segment file.archive expired.some expired.has)) in
+        ((ready.rest.selection.members expired.some).0 (ready.free.no_more expired.some held)).1 expired.expired
 
     source_now : shown new source ≡ Some (text_of es)
     source_now = still source (segment_apart period source file.segment) (λ is. name_apart (sym is)) ∙ source_was
@@ -278,6 +320,11 @@ module _ (x : Expired) (zero old new : State) (source draft name period : List �
     placed_spared = record {
       period = period;
       dated = dated;
+      entries = es;
+      whole = record {
+        is_file = file_as (shown zero) (shown new) source period es (source_now ∙ sym file.file) file;
+        some = expired;
+      };
       segment = file.segment;
       beside = λ e held not.
           let was = segment_no_more source period (text_of es) es file.segment file.archive e
@@ -286,21 +333,23 @@ module _ (x : Expired) (zero old new : State) (source draft name period : List �
             other = name;
             apart = name_apart;
             period = period;
-            segment = ready.segment;
+            segment = ready.free.segment;
             text = text_of left;
             on_disk = on_disk;
-            at = segment_has name period (text_of left) left ready.segment archive e
+            at = segment_has name period (text_of left) left ready.free.segment archive e
                 ((ready.rest.selection.members e).1 (was, not));
           };
     }
 
 -- all of it is expired
 pub expired_spared : (x : Expired) (state : State) (source period : List ℕ) (es : List Entry)
-    → IsSegmentFile (shown state) source period es → IsPeriodText period → ((e : Entry) → Has es e → IsExpired x e)
-    → IsSpared x state source
-expired_spared x state source period es file dated all = record {
+    → IsSegmentFile (shown state) source period es → SomeExpired x es → IsPeriodText period
+    → ((e : Entry) → Has es e → IsExpired x e) → IsSpared x state source
+expired_spared x state source period es file some dated all = record {
   period = period;
   dated = dated;
+  entries = es;
+  whole = record { is_file = file; some = some };
   segment = file.segment;
   beside = λ e held not. absurd (not (all e (segment_no_more source period (text_of es) es file.segment file.archive e
       (subst (λ (o : Option (List ℕ)). HeldAt source o e) file.file held))));
@@ -423,8 +472,9 @@ module _ (x : Expired) (old new : State) (name : List ℕ) (s : IsSpared x old n
           at = subst (λ (o : Option (List ℕ)). HeldAt h.name o e) (others_still h.name apart) h.at;
         })
         (same_or_apart h.name name);
-    changes = λ other. ⊎_elim
-        (λ is. inr (clear_none x (shown new) other (ap (shown new) is ∙ gone)))
+    changes = λ other differs. ⊎_elim
+        (λ (is : other ≡ name). subst (ChangesAt x (shown old) (shown new)) (sym is)
+        (inr (inl ((s.period, s.entries, s.whole), gone))))
         (λ apart. inl (others_still other apart))
         (same_or_apart other name);
     others = λ other differs not. others_still other (λ is. not s.period s.dated (subst (IsSegment s.period) (sym is) s.segment));

@@ -1,16 +1,16 @@
 -- A file has no entries that a draft lacks.
-use Rattle.std.proofs.Common.{◌≡◌, ℕ, Bool, true, false, List, [], ◌∷◌, ◌++◌, inl, inr, ⊎_elim, refl, sym, ap, subst, ◌∙◌}
-use Rattle.std.proofs.Common.{append-nil, arith, length}
+use Rattle.std.proofs.Common.{◌≡◌, ◌≢◌, ℕ, Bool, true, false, List, [], ◌∷◌, ◌++◌, inl, inr, ⊎_elim, refl, sym, ap, subst}
+use Rattle.std.proofs.Common.{◌∙◌}
+use Rattle.std.proofs.Common.{arith, length}
 use Rattle.std.specs.Prelude.{Option, None, Some, IsSomeAnd, IsTrue, not}
 use Rattle.std.proofs.lemmas.Bool.{cases_Bool}
 use Rattle.disk.specs.Calls.{IsUnchanged}
 use Rattle.disk.specs.Memory.{shown_now}
-use Rattle.disk.specs.States.{State}
+use Rattle.disk.specs.States.{Files, State}
 use Rattle.octet_devices.specs.Device.{InputState}
 use Rattle.octet_devices.specs.Held.{counted}
 use Rattle.archive_text.specs.Entries.{Entry, Has}
-use Rattle.archive_text.specs.Text.{IsArchive, text_of}
-use Rattle.archive_text.specs.declared.limits.TheConstants.{ENTRY_MAX}
+use Rattle.archive_text.specs.Text.{text_of}
 use Rattle.archive_streams.specs.Entries.{IsWhole}
 use Rattle.archive_join.specs.Holders.{AreKept, has_entry}
 use Rattle.archive_join.specs.Inputs.{AreWhole}
@@ -18,13 +18,13 @@ use Rattle.archive_join.specs.Joined.{Joined}
 use Rattle.archive_join.specs.Keeping.{HasFirstAlone}
 use Rattle.archive_join.proofs.Holders.{has_decides}
 use Rattle.record_store.specs.Holdings.{HeldAt}
-use Rattle.record_store.specs.Names.{IsSegment}
 use Rattle.record_store.specs.Segments.{ShowsNoMore}
-use Rattle.record_store.proofs.Named.{not_both}
+use Rattle.record_store.proofs.Drafted.{segment_no_more}
 use Rattle.store_reading.specs.Folders.{Opens}
-use Rattle.store_reading.proofs.Joined.{rest_of, whole_rest}
-use Rattle.store_reading.proofs.Segments.{has_is}
 use Rattle.store_upkeep.specs.Compaction.{shown}
+use Rattle.store_expiry.specs.Causes.{HasOthers}
+use Rattle.store_expiry.specs.Surveys.{IsArchiveAt, IsNoneOrWhole, IsSegmentFile}
+use Rattle.store_expiry.proofs.Changing.{file_as}
 use Rattle.store_expiry.proofs.Resting.{whole_of}
 
 -- two inputs were read to their ends
@@ -69,57 +69,94 @@ all_second first second ys kept none e has = ⊎_elim
     ((kept.members e).1 (inl has, ((has_decides first e).1 has, (no, tt))))))
     (cases_Bool (has_entry second e))
 
-text_is : (d e : InputState) (file : List ℕ) (xs : List Entry) → d.left ≡ Some file → IsWhole d e xs
-    → file ≡ text_of xs
-text_is d e file xs left w =
-    let r = rest_of d.left e.left (text_of xs) file w.consumed left in
-    let none = whole_rest e.left r.0 r.1 w.none_left in
-    r.2 ∙ ap (λ (t : List ℕ). text_of xs ++ t) none ∙ append-nil (text_of xs)
-
-held_in : (name period : List ℕ) (o : Option (List ℕ)) (d e : InputState) (xs : List Entry) (y : Entry)
-    → IsSegment period name → IsSomeAnd o (λ octets. d.left ≡ Some octets) → IsWhole d e xs → HeldAt name o y → Has xs y
-held_in name period None d e xs y segment opened w held = absurd held
-held_in name period (Some file) d e xs y segment opened w (inl journal) =
-    absurd (not_both period name journal.0 segment)
-held_in name period (Some file) d e xs y segment opened w (inr (p, named, has)) =
-    let same = text_is d e file xs opened w in
-    has_is p xs y w.archive (record {
-      entries = has.entries;
-      archive = has.archive;
-      text_is = sym same ∙ has.text_is;
-      days = has.days;
-      has = has.has;
-    })
-
 left_of : (o left : Option (List ℕ)) (file : List ℕ) → IsSomeAnd o (λ octets. left ≡ Some octets) → o ≡ Some file
     → left ≡ Some file
 left_of None left file opened is = absurd opened
 left_of (Some x) left file opened is = opened ∙ is
 
-pub shows_no_more : (state : State) (name draft period : List ℕ) (d e : InputState) (ds after : List InputState)
-    (text : List Bool → Entry → List ℕ) (old new : Option (List ℕ)) (n : ℕ) (left : List Entry)
-    → Opens (shown state) name d → Opens (shown state) draft e
-    → ds ≡ d ∷ e ∷ [] → Joined HasFirstAlone text ds after old new n → n ≡ 0 → IsSegment period name
-    → IsArchive ENTRY_MAX left → shown state draft ≡ Some (text_of left) → ShowsNoMore state name left
-shows_no_more state name draft period d e ds after text old new n left opened drafted are j zero segment archive is y held =
-    let w = two_whole d e after j.xss (subst (λ (l : List InputState). AreWhole l after j.xss) are j.whole) in
-    let kept = subst (λ (xss : List (List Entry)). AreKept HasFirstAlone xss j.ys) w.are j.kept in
-    let mine = held_in name period (shown state name) d w.d_after w.first y segment opened w.first_whole held in
-    let same = whole_of e w.e_after left w.second (left_of (shown state draft) e.left (text_of left) drafted is) archive
-    w.second_whole in
-    subst (λ (l : List Entry). Has l y) same
-    (all_second w.first w.second j.ys kept (none_counted j.ys n j.count zero) y mine)
+-- one that is the first's alone
+first_alone : (first second ys : List Entry) → AreKept HasFirstAlone (first ∷ second ∷ []) ys → ys ≢ []
+    → (e : Entry) × Has first e × (¬ (Has second e))
+first_alone first second [] kept some = absurd (some refl)
+first_alone first second (y ∷ ys) kept some =
+    let member = (kept.members y).0 (inl refl) in
+    (y, (has_decides first y).0 member.1.0, (λ has. absurd (cc (sym member.1.1.0 ∙ (has_decides second y).1 has))))
+
+not_counted : (ys : List Entry) (n : ℕ) → n ≡ counted (length ys) → n ≢ 0 → ys ≢ []
+not_counted ys n is some none = some (is ∙ ap (λ (l : List Entry). counted (length l)) none)
+
+module _ (files : Files) (name draft : List ℕ) (d e : InputState) (ds after : List InputState)
+    (text : List Bool → Entry → List ℕ) (old new : Option (List ℕ)) (n : ℕ) (es left : List Entry)
+    (opened : Opens files name d) (drafted : Opens files draft e) (are : ds ≡ d ∷ e ∷ [])
+    (j : Joined HasFirstAlone text ds after old new n) (file : IsArchiveAt files name es)
+    (rest : IsArchiveAt files draft left) where
+  ends : TwoWhole d e j.xss
+  ends = two_whole d e after j.xss (subst (λ (l : List InputState). AreWhole l after j.xss) are j.whole)
+
+  kept : AreKept HasFirstAlone (ends.first ∷ ends.second ∷ []) j.ys
+  kept = subst (λ (xss : List (List Entry)). AreKept HasFirstAlone xss j.ys) ends.are j.kept
+
+  first_is : ends.first ≡ es
+  first_is =
+      whole_of d ends.d_after es ends.first (left_of (files name) d.left (text_of es) opened file.file) file.archive
+      ends.first_whole
+
+  second_is : ends.second ≡ left
+  second_is =
+      whole_of e ends.e_after left ends.second (left_of (files draft) e.left (text_of left) drafted rest.file)
+      rest.archive ends.second_whole
+
+  pub has_none : n ≡ 0 → (y : Entry) → Has es y → Has left y
+  has_none zero y has =
+      subst (λ (l : List Entry). Has l y) second_is
+      (all_second ends.first ends.second j.ys kept (none_counted j.ys n j.count zero) y
+      (subst (λ (l : List Entry). Has l y) (sym first_is) has))
+
+  pub has_more : n ≢ 0 → (y : Entry) × Has es y × (¬ (Has left y))
+  has_more some =
+      let found = first_alone ends.first ends.second j.ys kept (not_counted j.ys n j.count some) in (
+        found.0,
+        subst (λ (l : List Entry). Has l found.0) first_is found.1,
+        (λ has. found.2 (subst (λ (l : List Entry). Has l found.0) (sym second_is) has)),
+      )
+
+-- what a read shows of a whole segment
+pub shows_no_more : (state : State) (name period : List ℕ) (es left : List Entry)
+    → IsSegmentFile (shown state) name period es → ((e : Entry) → Has es e → Has left e) → ShowsNoMore state name left
+shows_no_more state name period es left f all e held =
+    all e (segment_no_more name period (text_of es) es f.segment f.archive e
+    (subst (λ (o : Option (List ℕ)). HeldAt name o e) f.file held))
+
+pub archive_of : (files : Files) (name period : List ℕ) (es : List Entry) → IsSegmentFile files name period es
+    → IsArchiveAt files name es
+archive_of files name period es f = record { archive = f.archive.archive; file = f.file }
+
+-- nothing has changed
+pub archive_still : (old new : State) (name : List ℕ) (es : List Entry) → IsUnchanged old new
+    → IsArchiveAt (shown old) name es → IsArchiveAt (shown new) name es
+archive_still old new name es same a =
+    record { archive = a.archive; file = ap shown_now (same.entries name) ∙ a.file }
 
 pub no_more_there : (state : State) (name : List ℕ) (es : List Entry) → shown state name ≡ None
     → ShowsNoMore state name es
 no_more_there state name es none e held = absurd (subst (λ (o : Option (List ℕ)). HeldAt name o e) none held)
 
-pub no_more_still : (zero one : State) (name draft : List ℕ) (es : List Entry) → IsUnchanged zero one
-    → (shown one draft ≡ Some (text_of es) → ShowsNoMore one name es) → shown zero draft ≡ Some (text_of es)
-    → ShowsNoMore zero name es
-no_more_still zero one name draft es same then is e held =
-    then (ap shown_now (same.entries draft) ∙ is) e
-    (subst (λ (o : Option (List ℕ)). HeldAt name o e) (sym (ap shown_now (same.entries name))) held)
+module _ (zero one : State) (name period : List ℕ) (es left : List Entry) (same : IsUnchanged zero one)
+    (file : IsSegmentFile (shown one) name period es) where
+  file_then : IsSegmentFile (shown zero) name period es
+  file_then = file_as (shown one) (shown zero) name period es (sym (ap shown_now (same.entries name))) file
+
+  pub free_then : ((e : Entry) → Has es e → Has left e) → ShowsNoMore zero name left × IsNoneOrWhole (shown zero) name
+  free_then all = (shows_no_more zero name period es left file_then all, inr (period, es, file_then))
+
+  pub others_then : (e : Entry) × Has es e × (¬ (Has left e)) → HasOthers (shown zero) name period left
+  others_then found = record {
+    entries = es;
+    is_file = file_then;
+    other = found.0;
+    has = found.1;
+    lacks = found.2;
+  }
 
 pub not_off : (b : Bool) → not b ≡ false → IsTrue b
 not_off true off = refl

@@ -3,3 +3,4 @@ pub mod Expired
 pub mod Expiry
 pub mod Lines
 pub mod Surveys
+pub mod Turns

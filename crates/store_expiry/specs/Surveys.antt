@@ -1,16 +1,20 @@
 -- What a segment has.
-use Rattle.std.specs.Prelude.{◌≡◌, ℕ, List, Some, IsTrue, false, length}
+use Rattle.std.specs.Prelude.{◌≡◌, ◌⊎◌, ℕ, List, None, Some, IfSome, IsTrue, false, length}
 use Rattle.disk.specs.States.{Files}
 use Rattle.hex.specs.Hex.{encode_lower}
 use Rattle.sha2.specs.Sha256.{sha256}
 use Rattle.octet_devices.specs.Device.{InputState}
 use Rattle.octet_devices.specs.Held.{counted}
 use Rattle.archive_text.specs.Entries.{Entry, Has}
-use Rattle.archive_text.specs.Text.{text_of}
+use Rattle.archive_text.specs.Text.{IsArchive, text_of}
+use Rattle.archive_text.specs.declared.limits.TheConstants.{ENTRY_MAX}
+use Rattle.archive_sets.specs.Selections.{IsSelection}
+use Rattle.record_store.specs.Holdings.{IsOfPeriod}
 use Rattle.record_store.specs.Names.{IsSegment}
 use Rattle.record_store.specs.Segments.{IsSegmentOf, segment_name}
 use Rattle.store_reading.specs.Days.{IsPeriodText}
 use Rattle.store_reading.specs.Segments.{IsWholeOf}
+use Rattle.store_reading.specs.Whole.{IsWholeSegment}
 use Rattle.store_expiry.specs.Expired.{IsExpired}
 use Rattle.store_expiry.specs.declared.expired.Expired.{Expired}
 use Rattle.store_expiry.specs.declared.survey.Found.{Found}
@@ -49,7 +53,43 @@ pub record IsSegmentFile (files : Files) (name period : List ℕ) (es : List Ent
   pub archive : IsSegmentOf period (text_of es) es
   pub named : name ≡ segment_name period (text_of es)
 
--- and this is its survey
+-- and some of them are expired
+pub record HasExpired (x : Expired) (files : Files) (name period : List ℕ) (es : List Entry) : Type 0 where
+  pub is_file : IsSegmentFile files name period es
+  pub some : SomeExpired x es
+
+-- the file under a name is a whole segment that has something expired
+abbrev pub IsExpiredAt : Expired → Files → List ℕ → Type 0
+IsExpiredAt x files name = (period : List ℕ) × (es : List Entry) × HasExpired x files name period es
+
+-- there is no file under a name, or a whole segment
+abbrev pub IsNoneOrWhole : Files → List ℕ → Type 0
+IsNoneOrWhole files name =
+    (files name ≡ None) ⊎ ((period : List ℕ) × (es : List Entry) × IsSegmentFile files name period es)
+
+-- these are the entries of a whole segment that are not expired, and others are
+pub record IsLeftOver (x : Expired) (files : Files) (period : List ℕ) (left : List Entry) : Type 0 where
+  pub source : List ℕ
+  pub entries : List Entry
+  pub whole : HasExpired x files source period entries
+  pub selection : IsSelection (λ e. ¬ (IsExpired x e)) entries left
+
+-- no entry of a period is expired
+abbrev pub IsUnexpired : Expired → List ℕ → Type 0
+IsUnexpired x period = (e : Entry) → IsOfPeriod period e → ¬ (IsExpired x e)
+
+-- the file under a name, if there is one, is whole where the name is that of a segment, or no entry of its period is
+-- expired
+abbrev pub IsWholeOrUnexpired : Expired → Files → List ℕ → Type 0
+IsWholeOrUnexpired x files name = (period : List ℕ) → IsPeriodText period → IsSegment period name
+    → IfSome (files name) (IsWholeSegment period name) ⊎ IsUnexpired x period
+
+-- the file under a name is the archive of these entries
+pub record IsArchiveAt (files : Files) (name : List ℕ) (es : List Entry) : Type 0 where
+  pub archive : IsArchive ENTRY_MAX es
+  pub file : files name ≡ Some (text_of es)
+
+-- the file under a name is a whole segment, and this is its survey
 pub record IsSurveyedAt (x : Expired) (files : Files) (name period : List ℕ) (s : Survey) : Type 0 where
   pub entries : List Entry
   pub is_file : IsSegmentFile files name period entries

@@ -1,8 +1,9 @@
 //! The line of a segment that goes.
 ghost use Rattle.std.specs.Prelude.{◌≡◌, ◌++◌, ◌∷◌, [], IfOk, List, decimal};
+ghost use Rattle.disk.specs.States.{Files};
 ghost use Rattle.archive_text.specs.Entries.{Entry};
 ghost use Rattle.archive_digest.specs.Digests.{line_of};
-ghost use Rattle.store_expiry.specs.Causes.{TellsCause, none_damaged};
+ghost use Rattle.store_expiry.specs.Causes.{TellsCause};
 ghost use Rattle.store_expiry.specs.Lines.{Tells};
 ghost use Rattle.store_expiry.specs.Surveys.{IsSurveyOf};
 ghost use Rattle.store_expiry.specs.declared.expired.Expired.{Expired};
@@ -34,7 +35,7 @@ fn line(alloc: Global, found: &Found) -> Result<Vec<u8>, AllocError>
 pub fn tell<W: Output>(alloc: Global, found: &Found, output: &mut W) -> Result<(), ExpireFault>
     ensures tells { (x : Expired) (es : List Entry) → IsSurveyOf x es found.now.survey
         → Tells (W.state output.old).taken (W.state output.new).taken (line_of found.now.period es) result }
-    ensures cause { TellsCause none_damaged (W.state output.old).failures
+    ensures cause { (x : Expired) (files : Files) → TellsCause x files (W.state output.old).failures
         (W.state output.new).failures result }
 {
     let text = line(alloc, found)?;

@@ -3,7 +3,7 @@ ghost use Rattle.std.specs.Prelude.{List, OnOk, ℕ};
 ghost use Rattle.journal.specs.Journals.{IsOnDisk, IsSound};
 ghost use Rattle.archive_text.specs.Entries.{Entry};
 ghost use Rattle.store_upkeep.specs.Compaction.{MayBePlaced, shown};
-ghost use Rattle.store_expiry.specs.Causes.{TellsCause, none_damaged};
+ghost use Rattle.store_expiry.specs.Causes.{TellsCause};
 ghost use Rattle.store_expiry.specs.Expiry.{IsSpared, NoneIsGone, Places, Sheds};
 ghost use Rattle.store_expiry.specs.Surveys.{IsFoundAt};
 
@@ -13,7 +13,7 @@ use crate::rest::prepare_rest;
 use crate::survey::Found;
 use disk::{Disk, DiskFault, FileName};
 use std::alloc::Global;
-use store_upkeep::{StreamDisk, write_fault};
+use store_upkeep::{StreamDisk, discard_draft, write_fault};
 
 // Gives a draft that is on the disk its name, in place of what is there.
 fn place<D: Disk>(disk: &mut D, draft: &FileName, name: &FileName) -> Result<(), DiskFault>
@@ -33,7 +33,8 @@ fn place<D: Disk>(disk: &mut D, draft: &FileName, name: &FileName) -> Result<(),
     Ok(())
 }
 
-/// Puts what is left of a segment, of which this was found, beside it.
+/// Puts what is left of a segment, of which this was found, beside it. Where that fails, the draft is
+/// removed.
 pub fn keep_left<D: StreamDisk>(
     alloc: Global,
     disk: &mut D,
@@ -56,7 +57,9 @@ pub fn keep_left<D: StreamDisk>(
         → IsFoundAt expired.now (shown (D.state disk.old)) name.now found.now
         → NoneIsGone expired.now (D.state disk.old) (D.state disk.new) }
 
-    ensures cause { (n : ℕ) → TellsCause none_damaged n n result }
+    ensures cause { D.tells disk.new → IsSound (D.state disk.old)
+        → IsFoundAt expired.now (shown (D.state disk.old)) name.now found.now
+        → (n : ℕ) → TellsCause expired.now (shown (D.state disk.new)) n n result }
     ensures told { D.tells disk.new → D.tells disk.old }
 {
     if !found.survey.tally.left {
@@ -65,6 +68,9 @@ pub fn keep_left<D: StreamDisk>(
     let rest = prepare_rest(alloc, disk, expired, name, &found.period)?;
     match place(disk, &rest.draft, &rest.name) {
         Ok(()) => Ok(()),
-        Err(fault) => Err(ExpireFault::Store(write_fault(alloc, &rest.name, fault))),
+        Err(fault) => {
+            discard_draft(disk, &rest.draft);
+            Err(ExpireFault::Store(write_fault(alloc, &rest.name, fault)))
+        }
     }
 }

@@ -1,9 +1,10 @@
 //! A segment is told and removed.
-ghost use Rattle.std.specs.Prelude.{◌≡◌, ◌≢◌, List, None, OnOk, ℕ};
+ghost use Rattle.std.specs.Prelude.{◌≡◌, ◌≢◌, IsTrue, List, None, OnOk, false, ℕ};
+ghost use Rattle.disk.specs.Calls.{IsUnchanged};
 ghost use Rattle.journal.specs.Journals.{IsSound};
 ghost use Rattle.store_upkeep.specs.Compaction.{shown};
-ghost use Rattle.store_expiry.specs.Causes.{TellsCause, none_damaged};
-ghost use Rattle.store_expiry.specs.Expiry.{IsSpared, Sheds};
+ghost use Rattle.store_expiry.specs.Causes.{TellsCause};
+ghost use Rattle.store_expiry.specs.Expiry.{IsGone, IsSpared, KeepsOrSettles, Sheds};
 ghost use Rattle.store_expiry.specs.Lines.{WritesLines};
 ghost use Rattle.store_expiry.specs.Surveys.{IsFoundAt};
 ghost use Rattle.store_expiry.specs.declared.expired.Expired.{Expired as expired_Expired};
@@ -16,6 +17,7 @@ use crate::survey::Found;
 use disk::{Disk, FileName};
 use octet_devices::Output;
 use std::alloc::Global;
+use store_reading::ReadFault;
 use store_upkeep::{CompactFault, StreamDisk, write_fault};
 
 // Removes a segment.
@@ -61,7 +63,9 @@ pub fn shed<D: StreamDisk, W: Output>(
         → WritesLines expired.now (D.state disk.old) (D.state disk.new) (W.state output.old).taken
         (W.state output.new).taken (λ (n : List ℕ). n ≡ name.now) result }
 
-    ensures cause { TellsCause none_damaged (W.state output.old).failures
+    ensures cause { D.tells disk.new → IsSound (D.state disk.old)
+        → IsFoundAt expired.now (shown (D.state disk.old)) name.now found.now
+        → TellsCause expired.now (shown (D.state disk.new)) (W.state output.old).failures
         (W.state output.new).failures result }
     ensures told { D.tells disk.new → D.tells disk.old }
 {
@@ -69,4 +73,25 @@ pub fn shed<D: StreamDisk, W: Output>(
     tell(alloc, found, output)?;
     remove(alloc, disk, name)?;
     Ok(())
+}
+
+/// Brings removals to the disk, if there were any.
+pub fn settle_removals<D: Disk>(disk: &mut D, removed: bool) -> Result<(), CompactFault>
+    ensures gone { OnOk result (D.tells disk.new → IsSound (D.state disk.old) → IsTrue removed
+        → (name : List ℕ) → shown (D.state disk.new) name ≡ None → IsGone (D.state disk.new) name) }
+    ensures same { D.tells disk.new → removed ≡ false
+        → IsUnchanged (D.state disk.old) (D.state disk.new) }
+
+    // whatever the result is: so at every moment
+    ensures settles { D.tells disk.new → KeepsOrSettles (D.state disk.old) (D.state disk.new) }
+
+    ensures told { D.tells disk.new → D.tells disk.old }
+{
+    if !removed {
+        return Ok(());
+    }
+    match disk.sync_names() {
+        Ok(()) => Ok(()),
+        Err(fault) => Err(CompactFault::Read(ReadFault::Folder { fault })),
+    }
 }

@@ -1,13 +1,14 @@
 //! What is left of a segment is written anew.
-ghost use Rattle.std.specs.Prelude.{◌≡◌, IfOk, List, OnOk, Some, ℕ};
+ghost use Rattle.std.specs.Prelude.{◌≡◌, IfErr, IfOk, List, OnOk, Some, ℕ};
+ghost use Rattle.disk.specs.Calls.{IsUnchanged};
 ghost use Rattle.journal.specs.Journals.{IsSound, KeepsOthers};
 ghost use Rattle.archive_text.specs.Entries.{Entry};
 ghost use Rattle.archive_text.specs.Text.{IsArchive, text_of};
 ghost use Rattle.archive_text.specs.declared.limits.TheConstants.{ENTRY_MAX};
 ghost use Rattle.store_upkeep.specs.Compaction.{shown};
-ghost use Rattle.store_expiry.specs.Causes.{TellsCause, none_damaged};
-ghost use Rattle.store_expiry.specs.Expiry.{IsReadyRest, IsRestOf, expire_draft};
-ghost use Rattle.store_expiry.specs.Surveys.{IsSegmentFile};
+ghost use Rattle.store_expiry.specs.Causes.{IsExpireCause, TellsCause};
+ghost use Rattle.store_expiry.specs.Expiry.{IsFree, IsReadyRest, IsRestOf, expire_draft};
+ghost use Rattle.store_expiry.specs.Surveys.{HasExpired, IsArchiveAt, IsLeftOver, IsSegmentFile};
 
 use crate::expired::Expired;
 use crate::fault::ExpireFault;
@@ -106,8 +107,34 @@ fn write_rest<D: StreamDisk>(
     Ok(())
 }
 
+// The name that a draft is to have as the segment of a period. A file of that name is a whole segment and
+// has no other records.
+fn name_of_rest<D: StreamDisk>(
+    alloc: Global,
+    disk: &mut D,
+    expired: &Expired,
+    draft: &FileName,
+    period: &Period,
+) -> Result<FileName, ExpireFault>
+    ensures free { IfOk result (λ name. D.tells disk.new → IsSound (D.state disk.old)
+        → (left : List Entry) → IsArchiveAt (shown (D.state disk.old)) draft.now left
+        → IsFree (D.state disk.old) name period.now left) }
+    ensures cause { IfErr result (λ fault. D.tells disk.new → IsSound (D.state disk.old)
+        → (left : List Entry) → IsArchiveAt (shown (D.state disk.old)) draft.now left
+        → IsLeftOver expired.now (shown (D.state disk.old)) period.now left → (n : ℕ)
+        → IsExpireCause expired.now (shown (D.state disk.old)) n n fault) }
+    ensures same { D.tells disk.new → IsUnchanged (D.state disk.old) (D.state disk.new) }
+    ensures told { D.tells disk.new → D.tells disk.old }
+{
+    let name = name_of_draft(alloc, disk, draft, period)?;
+    if is_taken(alloc, disk, expired, &name, period, draft)? {
+        return Err(ExpireFault::Taken { name });
+    }
+    Ok(name)
+}
+
 /// Writes what is left of a segment of a period as a draft, and finds the name that it is to have. A file
-/// of that name has no other records.
+/// of that name has no other records. Where that fails, the draft is removed.
 pub fn prepare_rest<D: StreamDisk>(
     alloc: Global,
     disk: &mut D,
@@ -120,14 +147,18 @@ pub fn prepare_rest<D: StreamDisk>(
         → IsReadyRest expired.now (D.state disk.new) rest.draft rest.name period.now es) }
     ensures others { D.tells disk.new
         → KeepsOthers (D.state disk.old) (D.state disk.new) expire_draft }
-    ensures cause { (n : ℕ) → TellsCause none_damaged n n result }
+    ensures cause { D.tells disk.new → IsSound (D.state disk.old) → (es : List Entry)
+        → HasExpired expired.now (shown (D.state disk.old)) name.now period.now es → (n : ℕ)
+        → TellsCause expired.now (shown (D.state disk.new)) n n result }
     ensures told { D.tells disk.new → D.tells disk.old }
 {
     let draft = draft_name(alloc)?;
     write_rest(alloc, disk, expired, name, &draft)?;
-    let rest = name_of_draft(alloc, disk, &draft, period)?;
-    if is_taken(alloc, disk, &rest, &draft)? {
-        return Err(ExpireFault::Taken { name: rest });
+    match name_of_rest(alloc, disk, expired, &draft, period) {
+        Ok(name) => Ok(Rest { draft, name }),
+        Err(fault) => {
+            discard_draft(disk, &draft);
+            Err(fault)
+        }
     }
-    Ok(Rest { draft, name: rest })
 }

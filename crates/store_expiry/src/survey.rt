@@ -8,6 +8,7 @@ ghost use Rattle.store_reading.specs.Damages.{IsDamagedArchive, OfLeft, Tells};
 ghost use Rattle.store_upkeep.specs.Compaction.{shown};
 ghost use Rattle.store_expiry.specs.Causes.{IsDamagedFile, IsExpireCause};
 ghost use Rattle.store_expiry.specs.Surveys.{IsSurveyed, IsSurveyedAt};
+ghost use Rattle.store_expiry.specs.declared.expired.Expired.{Expired as expired_Expired};
 
 use crate::expired::Expired;
 use crate::fault::ExpireFault;
@@ -76,8 +77,8 @@ fn survey_archive<R: Input>(
 
 // Why a segment was not read to its end, or is damaged.
 fn survey_fault(alloc: Global, name: &FileName, fault: CheckFault) -> ExpireFault
-    ensures { (files : Files) → Tells fault (IsDamagedFile files name.now) → (n : ℕ)
-        → IsExpireCause (IsDamagedFile files) n n result }
+    ensures { (x : expired_Expired) (files : Files) → Tells fault (IsDamagedFile files name.now) → (n : ℕ)
+        → IsExpireCause x files n n result }
 {
     match fault {
         CheckFault::Damaged(damage) => match name.copy(alloc) {
@@ -105,7 +106,7 @@ pub fn survey_segment<D: StreamDisk>(
         → IsSurveyedAt expired.now (shown (D.state disk.old)) name.now period.now s) }
     ensures cause { IfErr result (λ fault. D.tells disk.new → IsSound (D.state disk.old)
         → IsSegment period.now name.now → (n : ℕ)
-        → IsExpireCause (IsDamagedFile (shown (D.state disk.old))) n n fault) }
+        → IsExpireCause expired.now (shown (D.state disk.old)) n n fault) }
     ensures same { D.tells disk.new → IsUnchanged (D.state disk.old) (D.state disk.new) }
     ensures told { D.tells disk.new → D.tells disk.old }
 {

@@ -223,7 +223,8 @@ impl<D: Disk + Drop> Keeping<SparedSet> for DiskKeeper<D> {
         }
     }
 
-    // Once a sync has failed it opens nothing: what a read shows then is not what the disk has.
+    // Once a sync has failed for anything but want of room it opens nothing: what a read shows then is not
+    // what the disk has.
     fn reopen(&mut self, alloc: Global) -> Result<(), KeepFault> {
         if !self.disk.is_sound() {
             return Err(KeepFault::Failed);

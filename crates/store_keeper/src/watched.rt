@@ -1,5 +1,5 @@
 //! Disks on which no sync has failed, and whether one has since.
-ghost use Rattle.std.specs.Prelude.{◌≡◌, false, true};
+ghost use Rattle.std.specs.Prelude.{◌≡◌, ◌⊎◌, IsErr, IsErrOf, false, true};
 
 use disk::{Disk, DiskFault, FileName};
 use std::alloc::Global;
@@ -13,13 +13,25 @@ pub struct SoundDisk<D: Disk> {
     pub ghost sound: { D.tells disk → (D.state disk).lost ≡ false },
 }
 
-/// A disk over another, which says whether a sync has failed on it. Once one has, whatever its fault,
-/// no later one promises anything until the machine is started anew.
+/// A disk over another, which says whether a sync has failed on it. Once one has, for anything but want of
+/// room on the disk or in memory, no later one promises anything until the machine is started anew.
 #[derive(Drop)]
 pub(crate) struct WatchedDisk<D: Disk> {
     disk: D,
     lost: bool,
     ghost sound: { lost ≡ false → D.tells disk → (D.state disk).lost ≡ false },
+}
+
+// Whether it may have lost something: a sync that failed for anything but want of room, on the disk or in
+// memory.
+fn may_lose(synced: &Result<(), DiskFault>) -> bool
+    ensures { result ≡ false → IsErr synced.now
+        → IsErrOf synced.now DiskFault.Full ⊎ IsErrOf synced.now DiskFault.Memory }
+{
+    match synced {
+        Ok(()) | Err(DiskFault::Full | DiskFault::Memory) => false,
+        Err(_) => true,
+    }
 }
 
 impl<D: Disk> WatchedDisk<D> {
@@ -91,7 +103,7 @@ impl<D: Disk> Disk for WatchedDisk<D> {
 
     fn sync(&mut self, name: &FileName) -> Result<(), DiskFault> {
         let synced = self.disk.sync(name);
-        self.lost |= synced.is_err();
+        self.lost |= may_lose(&synced);
         synced
     }
 
@@ -105,7 +117,7 @@ impl<D: Disk> Disk for WatchedDisk<D> {
 
     fn sync_names(&mut self) -> Result<(), DiskFault> {
         let settled = self.disk.sync_names();
-        self.lost |= settled.is_err();
+        self.lost |= may_lose(&settled);
         settled
     }
 }

@@ -1,6 +1,6 @@
-use crate::calls::{Change, change_all, fused, names_in, octets_of};
 use disk::{DiskFault, FileName, MemoryDisk};
 use std::test::Fail;
+use store_test_support::calls::{Change, change_all, fused, names_in, octets_of};
 
 #[test]
 fn names_are_tested(rt: HostRuntime) -> Result<(), Fail> {

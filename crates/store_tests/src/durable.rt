@@ -1,13 +1,14 @@
-use crate::calls::{
-    Stop, append, crash, fused, has, has_all, joined, names_in, octets_of, put, stops,
-};
-use crate::stores::{add, checkpoint, commit, count, opened, reopen, text_of};
+use crate::cramped::CrampedDisk;
 use archive_text::{Added, Store};
 use disk::{Disk, MemoryDisk};
-use durable_store::{DurableStore, OpenFault, SetAside};
+use durable_store::{CheckpointFault, DurableStore, OpenFault, SetAside};
 use record_store::{JournalDamage, StoreFault};
 use std::alloc::Global;
 use std::test::Fail;
+use store_test_support::calls::{
+    Stop, append, crash, fused, has, has_all, joined, names_in, octets_of, put, stops,
+};
+use store_test_support::stores::{add, checkpoint, commit, count, opened, reopen, text_of};
 use syslog_grammar::view;
 use syslog_value::Record;
 
@@ -213,6 +214,101 @@ fn a_checkpoint_is_made_again(rt: HostRuntime) -> Result<(), Fail> {
         assert!(rt; has_all(&all, &[FIRST, SECOND, THIRD]), "at {calls}");
         assert!(rt; done || has(&all, FOURTH), "at {calls}");
     }
+    Ok(())
+}
+
+// takes a step of a store, which is opened again before if it is broken
+fn tries<D: Disk>(
+    alloc: Global,
+    store: &mut DurableStore,
+    step: Step,
+    disk: &mut D,
+) -> Result<(), CheckpointFault> {
+    if store.is_broken() {
+        reopen(alloc, store, disk)?;
+    }
+    match step {
+        Step::Commit => Ok(commit(alloc, store, disk)?),
+        Step::Checkpoint => checkpoint(alloc, store, disk),
+    }
+}
+
+// How many tries of a step are told to find no room before one does it. All records stay in memory until then.
+fn tries_without_room<D: Disk>(
+    alloc: Global,
+    store: &mut DurableStore,
+    step: Step,
+    disk: &mut D,
+) -> Result<u64, Fail> {
+    for told in 0..8 {
+        let Err(fault) = tries(alloc, store, step, disk) else {
+            return Ok(told);
+        };
+        if !fault.is_full() || count(store) != 3 {
+            return Err("another fault, or records are lost".into());
+        }
+    }
+    Err("never done".into())
+}
+
+// The octets of the files of a store that is opened after a crash, which left nothing that was not on the disk.
+fn left_by_crash(alloc: Global, disk: MemoryDisk) -> Result<Vec<u8>, Fail> {
+    let mut disk = crash(disk, 0, Some(1), true)?;
+    let _store = opened(alloc, &mut disk)?;
+    all_files(alloc, &mut disk)
+}
+
+// whether a crash leaves what is committed where a step found no room at the sync behind so many
+fn keeps_committed(alloc: Global, step: Step, before: u64) -> Result<bool, Fail> {
+    let (disk, mut store) = begun(alloc)?;
+    let mut cramped = CrampedDisk::new(disk, before, 1);
+    let _done = takes(alloc, &mut store, step, &mut cramped);
+    let all = left_by_crash(alloc, cramped.into_inner())?;
+    Ok(has_all(&all, &[FIRST, THIRD]))
+}
+
+// Whether a step is done that finds no room at `full` syncs behind the first `before`, once so many tries have told
+// so. All records are on the disk then.
+fn is_tried_again(
+    alloc: Global,
+    step: Step,
+    before: u64,
+    full: u64,
+    told: u64,
+) -> Result<bool, Fail> {
+    let (disk, mut store) = begun(alloc)?;
+    let mut cramped = CrampedDisk::new(disk, before, full);
+    let found = tries_without_room(alloc, &mut store, step, &mut cramped)?;
+    let left = match step {
+        Step::Commit => 3,
+        Step::Checkpoint => 0,
+    };
+    let is_done = found == told && count(&store) == left;
+    let all = left_by_crash(alloc, cramped.into_inner())?;
+    Ok(is_done && has_all(&all, &[FIRST, SECOND, THIRD]))
+}
+
+// The number of syncs behind which a step that finds no room does not tell so, loses something or is not done later.
+// Behind all of its syncs, it is done at once.
+fn first_without_room(alloc: Global, step: Step, syncs: u64) -> Result<Option<u64>, Fail> {
+    for before in 0..=syncs {
+        let full = 1 + before % 3;
+        let told = if before < syncs { full } else { 0 };
+        let is_done = is_tried_again(alloc, step, before, full, told)?;
+        if !is_done || !keeps_committed(alloc, step, before)? {
+            return Ok(Some(before));
+        }
+    }
+    Ok(None)
+}
+
+// Each sync of a commit and of a checkpoint finds no room, and so do some behind it: that is told, nothing is lost,
+// and it is done once there is room.
+#[test]
+fn a_sync_without_room_is_tried_again(rt: HostRuntime) -> Result<(), Fail> {
+    let alloc = rt.alloc();
+    assert_eq!(rt; first_without_room(alloc, Step::Commit, 2)?, None);
+    assert_eq!(rt; first_without_room(alloc, Step::Checkpoint, 8)?, None);
     Ok(())
 }
 

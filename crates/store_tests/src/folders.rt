@@ -1,4 +1,3 @@
-use crate::calls::{Change, change_all, named, names_in, octets_from};
 use disk::{Disk, DiskFault, FileName};
 use folder_disk::{FolderDisk, FolderFault, FolderLock, LockFault, LockFile};
 use std::alloc::Global;
@@ -6,6 +5,7 @@ use std::io::{self, ErrorKind};
 use std::os::unix::fs::{MetadataExt, PermissionsExt, symlink};
 use std::test::Fail;
 use std::{env, fs, process};
+use store_test_support::calls::{Change, change_all, named, names_in, octets_from};
 
 // A path in the system's temporary folder, where nothing is.
 fn unused_path(rt: &HostRuntime, test: &str) -> io::Result<String> {

@@ -1,8 +1,8 @@
-use crate::calls::{crash, fused, named, octets_of, put, stops};
 use disk::{Disk, DiskFault, MemoryDisk};
 use journal::{Journal, batch_len, open, settle};
 use std::alloc::Global;
 use std::test::Fail;
+use store_test_support::calls::{crash, fused, named, octets_of, put, stops};
 
 const NAME: &[u8] = b"journal.1";
 

@@ -1,12 +1,12 @@
 //! Folders with several journals, as turns leave them that are stopped.
 
-use crate::calls::{crash, fused, has, joined, names_in, octets_of, put, stops};
-use crate::stores::{checkpoint, count, opened, text_of};
 use disk::MemoryDisk;
 use durable_store::{DurableStore, OpenFault, SetAside, check_journals};
 use record_store::{JournalDamage, journals};
 use std::alloc::Global;
 use std::test::Fail;
+use store_test_support::calls::{crash, fused, has, joined, names_in, octets_of, put, stops};
+use store_test_support::stores::{checkpoint, count, opened, text_of};
 
 // the text of the record of a journal, as its number is
 fn record(alloc: Global, number: u64) -> Result<Vec<u8>, Fail> {

@@ -1,8 +1,8 @@
-use crate::calls::{crash, fused, has, names_in, stops};
 use disk::{Disk, FileName, MemoryDisk};
 use record_store::{AppendFault, RecordStore, SegmentDraft, SegmentFault, StoreFault, open};
 use std::alloc::Global;
 use std::test::Fail;
+use store_test_support::calls::{crash, fused, has, names_in, stops};
 
 const FIRST: &[u8] = b"<0>1 - - - - - -";
 

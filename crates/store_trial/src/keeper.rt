@@ -2,12 +2,16 @@
 
 use anyhow::{Context, Result, anyhow};
 use archive_text::Store;
-use durable_store::DurableStore;
+use durable_store::{CheckpointFault, DurableStore};
 use folder_disk::{FolderDisk, FolderLock, LockFile};
+use record_store::StoreFault;
 use std::alloc::Global;
 use std::fmt::Display;
 use std::str;
 use syslog_grammar::view;
+
+// How often a call is made that finds no room.
+const TRIES: usize = 8;
 
 /// A durable store, its disk, and the lock on its folder.
 #[derive(Drop)]
@@ -61,9 +65,35 @@ impl Keeper {
         Ok(())
     }
 
-    /// Commits what was added. It fails if the disk does or memory runs out.
+    // Opens the store again, if a call has failed.
+    fn mend(&mut self) -> Result<(), StoreFault> {
+        if !self.store.is_broken() {
+            return Ok(());
+        }
+        self.store.reopen(self.alloc, &mut self.disk)
+    }
+
+    fn try_commit(&mut self) -> Result<(), StoreFault> {
+        self.mend()?;
+        self.store.commit(self.alloc, &mut self.disk)
+    }
+
+    fn try_checkpoint(&mut self) -> Result<(), CheckpointFault> {
+        self.mend()?;
+        self.store.checkpoint(self.alloc, &mut self.disk)
+    }
+
+    /// Commits what was added. Where there is no room, it tries again a few times. It fails if the disk
+    /// does or memory runs out.
     pub fn commit(&mut self) -> Result<()> {
-        match self.store.commit(self.alloc, &mut self.disk) {
+        let mut answer = self.try_commit();
+        for _ in 1..TRIES {
+            if !matches!(&answer, Err(fault) if fault.is_full()) {
+                break;
+            }
+            answer = self.try_commit();
+        }
+        match answer {
             Ok(()) => Ok(()),
             Err(fault) => Err(told(&self.disk, fault)),
         }
@@ -74,10 +104,17 @@ impl Keeper {
         self.store.journal_len()
     }
 
-    /// Writes what came since the last checkpoint as segments, and begins the next journal. It
-    /// fails if the disk does or memory runs out.
+    /// Writes what came since the last checkpoint as segments, and begins the next journal. Where there
+    /// is no room, it tries again a few times. It fails if the disk does or memory runs out.
     pub fn checkpoint(&mut self) -> Result<()> {
-        match self.store.checkpoint(self.alloc, &mut self.disk) {
+        let mut answer = self.try_checkpoint();
+        for _ in 1..TRIES {
+            if !matches!(&answer, Err(fault) if fault.is_full()) {
+                break;
+            }
+            answer = self.try_checkpoint();
+        }
+        match answer {
             Ok(()) => Ok(()),
             Err(fault) => Err(told(&self.disk, fault)),
         }

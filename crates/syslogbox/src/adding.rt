@@ -1,13 +1,12 @@
 //! `add`, over a folder of the system.
 
 use crate::stores::report_lock_fault;
-use crate::telling::line;
 use driver::{FAULT, NO_MEMORY, report};
 use folder_disk::{FolderDisk, FolderFault, FolderLock, LockFile};
 use octet_devices::{FromRead, Output};
 use std::alloc::Global;
 use std::io::ErrorKind;
-use store_engine::{add_to_store, report_file_error};
+use store_engine::{add_to_store, line_on, report_file_error};
 
 // Reports why nothing may be added to a folder, and returns the exit status.
 fn report_folder_fault<N: Output>(
@@ -19,7 +18,7 @@ fn report_folder_fault<N: Output>(
     if fault.kind() == ErrorKind::OutOfMemory {
         return report(diagnostics, b"want of memory\n", NO_MEMORY);
     }
-    match line(alloc, dir, fault) {
+    match line_on(alloc, dir, fault) {
         Ok(line) => report(diagnostics, line.as_bytes(), FAULT),
         Err(_) => report(diagnostics, b"want of memory\n", NO_MEMORY),
     }

@@ -31,7 +31,7 @@ use octet_devices::{FromRead, ToWrite};
 use std::io::{Stderr, Stdout};
 use std::process::ExitCode;
 use std::{env, io};
-use telling::line;
+use store_engine::line_on;
 
 // The arguments without the program's name, with timestamps for times that count back from now; or the
 // exit status where they cannot be read.
@@ -79,7 +79,7 @@ fn on_files(
     );
     match files.unopened() {
         Some(UnopenedFile { name, error }) if tells_why => {
-            match line(rt.alloc(), name.as_str(), error) {
+            match line_on(rt.alloc(), name.as_str(), error) {
                 Ok(line) => report(diagnostics, line.as_bytes(), status),
                 Err(_) => status,
             }
@@ -109,6 +109,7 @@ fn run(
             stores::read(rt, alloc, dir, range, output, &mut diagnostics)
         }
         Request::Verify { dir } => stores::verify(rt, alloc, dir, output, diagnostics),
+        Request::Stat { dir } => stores::stat(rt, alloc, dir, output, diagnostics),
         Request::Compact { dir } => stores::compact(rt, alloc, dir, diagnostics),
         Request::Expire { dir, words } => {
             stores::expire(rt, alloc, dir, words, output, diagnostics)

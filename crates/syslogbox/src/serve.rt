@@ -5,7 +5,7 @@ use crate::notes::Notes;
 use crate::opening::{Fault, Keeper, open_refused, open_store, tell_note_error};
 use crate::outputs::{Outputs, SharedNotes, SharedRefused};
 use crate::service_manager::ServiceManager;
-use crate::telling::{Teller, shown};
+use crate::telling::Teller;
 use crate::time::ServerTime;
 use driver::{NO_MEMORY, report};
 use folder_disk::FolderDisk;
@@ -17,6 +17,7 @@ use socket_source::{Inherited, Listener, OpenFault as SocketFault, SocketSource,
 use std::alloc::{AllocError, Global};
 use std::cell::RefCell;
 use std::time::Duration;
+use store_engine::shown;
 use store_keeper::{SparedSet, server_on};
 
 // Room for datagrams that wait, in octets, as far as the system gives it.

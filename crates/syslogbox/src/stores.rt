@@ -1,4 +1,4 @@
-//! `read`, `verify`, `compact` and `expire`, over a folder of the system.
+//! `read`, `verify`, `stat`, `compact` and `expire`, over a folder of the system.
 
 use crate::ago::days_ago;
 use archive_sets::InRange;
@@ -11,11 +11,12 @@ use std::alloc::Global;
 use std::fmt::Display;
 use std::io::ErrorKind;
 use store_engine::{
-    SystemDisk, SystemFolder, read_store, report_damaged_file, report_file_error, report_no_store,
-    report_read_fault, verify_store,
+    SystemDisk, SystemFolder, line_on, read_store, report_damaged_file, report_file_error,
+    report_no_store, report_read_fault, verify_store,
 };
 use store_expiry::{ExpireFault, Expired};
 use store_reading::{FileFault, ReadFault};
+use store_statistics::stat_store;
 use store_upkeep::{CompactFault, DamagedFile};
 use syslog_value::Instant;
 
@@ -68,14 +69,31 @@ pub fn verify<W: Output, N: Output>(
     explained(alloc, dir, &folder, status, diagnostics)
 }
 
-// Reports words, and why, and returns the exit status.
+/// Writes a line for each file of a store, with what it has, and one for all of them. Returns the exit
+/// status: 0 if no file is damaged, 1 if one is, else that of a fault.
+pub fn stat<W: Output, N: Output>(
+    rt: &HostRuntime,
+    alloc: Global,
+    dir: &str,
+    output: &mut W,
+    diagnostics: &mut N,
+) -> u8 {
+    let mut folder = match SystemFolder::open(rt, dir) {
+        Ok(folder) => folder,
+        Err(error) => return report_no_store(alloc, dir, &error, diagnostics),
+    };
+    let status = stat_store(alloc, &mut folder, output, diagnostics);
+    explained(alloc, dir, &folder, status, diagnostics)
+}
+
+// Reports what failed, and why, and returns the exit status.
 fn report_why<N: Output>(
     alloc: Global,
     what: &str,
     why: impl Display + Drop,
     diagnostics: &mut N,
 ) -> u8 {
-    match format!(in alloc; "{what}: {why}\n") {
+    match line_on(alloc, what, why) {
         Ok(line) => report(diagnostics, line.as_bytes(), FAULT),
         Err(_) => report(diagnostics, b"want of memory\n", NO_MEMORY),
     }

@@ -4,8 +4,8 @@ use crate::outputs::SharedNotes;
 use driver::{FAULT, NO_MEMORY, report};
 use folder_disk::{FileError, FolderDisk};
 use octet_devices::ToWrite;
-use std::alloc::{AllocError, Global};
 use std::fmt::Display;
+use store_engine::line_on;
 
 /// The system, and where a server tells.
 #[derive(Clone, Copy)]
@@ -14,32 +14,10 @@ pub struct Teller<'r, 'n> {
     pub notes: SharedNotes<'n>,
 }
 
-/// A text as it is printed: octets from 32 to 126, except quote and backslash, as themselves, and
-/// every other octet as `\x` and two hexadecimal digits.
-pub fn shown(alloc: Global, text: &str) -> Result<String, AllocError> {
-    let mut shown = String::new(alloc);
-    for octet in text.as_bytes() {
-        match *octet {
-            b'"' | b'\\' | 0..=31 | 127..=255 => {
-                let escaped = format!(in alloc; "\\x{octet:02x}")?;
-                shown.push_str(escaped.as_str())?;
-            }
-            plain => shown.push(char::from(plain))?,
-        }
-    }
-    Ok(shown)
-}
-
-/// The line on what failed, and why. The name is printed so that no octet of it reaches a terminal raw.
-pub fn line(alloc: Global, what: &str, why: impl Display + Drop) -> Result<String, AllocError> {
-    let what = shown(alloc, what)?;
-    format!(in alloc; "{what}: {why}\n")
-}
-
 impl<'r, 'n> Teller<'r, 'n> {
     /// Tells why serving does not begin, or ends, and gives the status.
     pub fn refuse(&self, what: &str, why: impl Display + Drop) -> u8 {
-        match line(self.rt.alloc(), what, why) {
+        match line_on(self.rt.alloc(), what, why) {
             Ok(line) => report(&mut ToWrite::new(self.notes), line.as_bytes(), FAULT),
             Err(_) => self.out_of_memory(),
         }

@@ -66,6 +66,16 @@ fn a_store_is_compacted(rt: HostRuntime) -> Result<(), Fail> {
 }
 
 #[test]
+fn the_files_of_a_store_are_listed(rt: HostRuntime) -> Result<(), Fail> {
+    let asked = asked(&rt, &["stat", "d"]);
+    assert!(rt; matches!(asked, Ok(Request::Stat { dir: "d" })));
+    refuses_all(
+        &rt,
+        &[&["stat"], &["stat", "d", "e"], &["stat", "d", "--json"]],
+    )
+}
+
+#[test]
 fn a_store_is_verified(rt: HostRuntime) -> Result<(), Fail> {
     let asked = asked(&rt, &["verify", "--", "-d"]);
     assert!(rt; matches!(asked, Ok(Request::Verify { dir: "-d" })));

@@ -63,6 +63,9 @@ returns-in-Read-clause-ran g c = rw c.in-Read.is (inr (refl, c.report-in-Read.en
 pub returns-in-Verify-clause-ran : goal.returns-in-Verify-clause-ran
 returns-in-Verify-clause-ran g c = rw c.in-Verify.is (inr (refl, c.report-in-Verify.ensures.reports))
 
+pub returns-in-Stat-clause-ran : goal.returns-in-Stat-clause-ran
+returns-in-Stat-clause-ran g c = rw c.in-Stat.is (inr (refl, c.report-in-Stat.ensures.reports))
+
 pub returns-in-Compact-clause-ran : goal.returns-in-Compact-clause-ran
 returns-in-Compact-clause-ran g c = rw c.in-Compact.is (inr (refl, c.report-in-Compact.ensures.reports))
 

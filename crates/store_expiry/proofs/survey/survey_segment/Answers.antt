@@ -19,7 +19,7 @@ pub returns-in-Err-clause-cause : goal.returns-in-Err-clause-cause
 returns-in-Err-clause-cause g c t sound segment n =
     let state = g.D.File.Input.state in
     let files = shown (g.D.Disk.state c.args.disk.now) in
-    c.survey_fault.ensures files
+    c.survey_fault.ensures c.args.expired.now files
     (archive_damaged files c.args.name.now c.args.period.now (state c.in_ok-file.file) c.in-Err.fault
     (c.in_ok-file.ensures.opened t sound) segment c.in-Err.ensures.damaged) n
 
@@ -27,7 +27,7 @@ pub returns-clause-cause : goal.returns-clause-cause
 returns-clause-cause g c t sound segment n =
     let state = g.D.File.Input.state in
     let files = shown (g.D.Disk.state c.args.disk.now) in
-    c.survey_fault-in-Err-check_digest.ensures files
+    c.survey_fault-in-Err-check_digest.ensures c.args.expired.now files
     (digest_damaged c.args.expired.now files c.args.name.now c.args.period.now (state c.in_ok-file.file)
     (state c.survey_archive.new.reader) c.in-Ok.found c.in-Err-check_digest.fault
     (c.in_ok-file.ensures.opened t sound) segment c.in-Ok.ensures.surveyed

@@ -1,7 +1,12 @@
-use Rattle.std.proofs.Common.{◌≡◌}
+use Rattle.std.proofs.Common.{◌≡◌, None}
+use Rattle.socket_source.specs.Lines.{line}
+use Rattle.socket_source.specs.Runs.{HasTurns}
 use Rattle.socket_source.specs.Standings.{standing}
 use Rattle.socket_source.proofs.sockets.Sockets.next_step.Given as goal
 
--- no turn so far gave a step, so nothing changed
+-- no turn so far gave a step, so nothing changed but the queues
 abbrev pub invariant-loop-turn : goal.invariant-loop-turn
-invariant-loop-turn g l = standing l.self ≡ standing l.fn.self
+invariant-loop-turn g l = record {
+  standing : standing l.self ≡ standing l.fn.self;
+  turns : HasTurns None (line l.fn.self) (line l.self);
+}

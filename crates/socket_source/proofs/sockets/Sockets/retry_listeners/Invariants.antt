@@ -9,5 +9,7 @@ abbrev pub invariant-loop-listener : goal.invariant-loop-listener
 invariant-loop-listener g l = record {
   standing : standing l.self ≡ standing l.fn.self;
   stays : l.self.held ≡ l.fn.self.held;
+  round : l.self.round ≡ l.fn.self.round;
+  early : l.self.early ≡ l.fn.self.early;
   order : Keeps (line l.fn.self) (line l.self);
 }

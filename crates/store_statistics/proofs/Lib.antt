@@ -1,0 +1,10 @@
+pub mod Counting
+pub mod Ending
+pub mod Journals
+pub mod Listing
+pub mod Naming
+pub mod Seeing
+pub mod Segments
+pub mod Summing
+pub mod Surveying
+pub mod Timing

@@ -1,0 +1,12 @@
+use Rattle.std.proofs.Common.{rules, is_lt}
+use Rattle.std.specs.Cmp.Lexicographic.{slice_cmp}
+use Rattle.std.specs.Ordering.{nat_cmp}
+use Rattle.std.proofs.lemmas.Cmp.{nat_list_cmp_total}
+use Rattle.std.proofs.lemmas.Fn.{always_returns_same}
+use Rattle.std.proofs.lemmas.List.Sorted.{ranks_by}
+use Rattle.store_statistics.proofs.names.sort.Goals as goal
+
+pub returns-clause-sorted : goal.returns-clause-sorted
+returns-clause-sorted c =
+    c.sort_unstable_by.ensures.sorted (λ a b. is_lt (slice_cmp nat_cmp a b)) (ranks_by nat_list_cmp_total (λ x. x))
+    (always_returns_same _ _ _ (λ a r f k. search rules))
