@@ -1,9 +1,12 @@
 """`serve` within a limit on its address space: connections that are silent cost what they hold, the room of a long frame is
 given back once it has ended, want of memory ends the connection that it was wanted for alone, and a set that has no room for a
-record is written to the disk."""
+record is written to the disk. Without a limit it takes at most what docs/OPERATING.md says."""
+import re
 import tempfile
+from pathlib import Path
 
 from cases.noisy_senders import with_descriptors
+from lib.program import ROOT
 from lib.reference import counted
 from lib.server import Runs, any_port, until
 
@@ -15,6 +18,8 @@ HALF = b"200000 <14>1 - - - - - - "
 MOST = HALF + b"x" * 190_000
 GOOD = b"<14>1 - h good - - - beside them"
 LONG = b"<14>1 - h long - - - " + b"x" * 200_000
+PERIOD, CHECKPOINT = 200, 64  # MiB that come within a commit, and the default
+BOUND = re.compile(r"^    (\d+) \+ ([\d.]+) \* CHECKPOINT \+ ([\d.]+) \* PERIOD \+ [\d.]+ \* CONNECTIONS$", re.MULTILINE)
 
 
 def limited():
@@ -84,6 +89,24 @@ def large_set(runs, name, *words):
         runs.ends(name, server, 0)
 
 
+def most_memory(server):
+    """How many MiB a server has had in memory at most."""
+    status = Path(f"/proc/{server.process.pid}/status").read_text()
+    return int(re.search(r"VmHWM:\s*(\d+)", status)[1]) / 1_024
+
+
+def within_the_bound(runs):
+    """What comes within one commit takes no more memory than the operator is told; one connection is as good as none."""
+    fixed, of_checkpoint, of_period = map(float, BOUND.search((ROOT / "docs/OPERATING.md").read_text()).groups())
+    frames = [counted([b"<14>1 2026-11-29T10:00:00.%06dZ h good - - - %s" % (n, b"x" * 170)]) for n in range(1_000_000)]
+    octets = b"".join(frames[:PERIOD * MEBIBYTE // len(frames[0])])
+    with runs.until_eof(*any_port("counted"), "--commit", 6_000) as server:
+        server.send("counted", octets)
+        written = until(lambda: sum(path.stat().st_size for path in server.store.iterdir()) > len(octets) * 0.9)
+        taken, most = most_memory(server), fixed + of_checkpoint * CHECKPOINT + of_period * PERIOD
+        runs.results.check("memory of what comes within a commit", written and taken <= most, f"{taken:.0f} MiB of {most:.0f}")
+
+
 def try_all(program, results):
     for name, first, records in [
         ("one octet", b"1", []),
@@ -109,3 +132,5 @@ def try_all(program, results):
 
 def scarce_memory(program, results):
     with_descriptors(lambda: try_all(program, results))
+    with tempfile.TemporaryDirectory() as path:
+        within_the_bound(Runs(program, results, path))
