@@ -5,6 +5,7 @@
 #include "syslogbox.h"
 
 #include <stdio.h>
+#include <stdlib.h>
 
 /* What crates/c_library exports. No pointer is null. */
 int syslogbox_proved_check(const uint8_t *, size_t, struct syslogbox_fault *);
@@ -23,9 +24,21 @@ int64_t syslogbox_proved_union(const uint8_t *, size_t, const uint8_t *, size_t,
                                struct syslogbox_fault *);
 int syslogbox_proved_root(const uint8_t *, size_t, struct syslogbox_root *, struct syslogbox_fault *);
 int64_t syslogbox_proved_legacy(int, int, const uint8_t *, size_t, uint8_t *, size_t, struct syslogbox_fault *);
+int64_t syslogbox_proved_packet(int, int, int, const uint8_t *, size_t, uint8_t *, size_t, struct syslogbox_fault *);
+size_t syslogbox_proved_trimmed(const uint8_t *, size_t);
+int64_t syslogbox_proved_common(const uint8_t *, size_t, const uint8_t *, size_t, uint8_t *, size_t,
+                                struct syslogbox_fault *);
+int64_t syslogbox_proved_minus(const uint8_t *, size_t, const uint8_t *, size_t, uint8_t *, size_t,
+                               struct syslogbox_fault *);
+int64_t syslogbox_proved_select(const struct syslogbox_condition *, const uint8_t *, size_t, uint8_t *, size_t,
+                                struct syslogbox_fault *);
+int64_t syslogbox_proved_digest(int, const uint8_t *, size_t, uint8_t *, size_t, struct syslogbox_fault *);
+int syslogbox_proved_scan(int, size_t, const uint8_t *, size_t, struct syslogbox_scanner *, struct syslogbox_found *);
+int64_t syslogbox_proved_build(const struct syslogbox_fields *, uint8_t *, size_t, struct syslogbox_fault *);
 
 static uint8_t nothing[1];
 static struct syslogbox_part_span no_span;
+static const struct syslogbox_item no_item = {0, {nothing, 0}};
 
 static const uint8_t *octets(const uint8_t *at, size_t len)
 {
@@ -66,6 +79,10 @@ static const struct meaning {
     [SYSLOGBOX_NO_ELEMENT] = {NULL, "there are ", " elements"},
     [SYSLOGBOX_NO_PARAM] = {NULL, "there are ", " parameters"},
     [SYSLOGBOX_RECORD_TOO_LONG] = {NULL, "the record has more than ", " octets"},
+    [SYSLOGBOX_BAD_DIALECT] = {NULL, NULL, "there is no such dialect"},
+    [SYSLOGBOX_BAD_FIELD] = {"the", " may not be so, from octet ", " on"},
+    [SYSLOGBOX_BAD_ITEM] = {NULL, "item ", " of the structured data is refused"},
+    [SYSLOGBOX_BAD_PERIOD] = {NULL, NULL, "there is no such period"},
 };
 
 /* A space and the name of each field; nothing for an archive that is alone. */
@@ -186,4 +203,106 @@ int64_t syslogbox_legacy(int year, int offset_minutes, const uint8_t *packet, si
 {
     UNREAD(fault);
     return syslogbox_proved_legacy(year, offset_minutes, octets(packet, len), len, space(out, room), room, fault);
+}
+
+int64_t syslogbox_packet(int dialect, int year, int offset_minutes, const uint8_t *packet, size_t len, uint8_t *out,
+                         size_t room, struct syslogbox_fault *fault)
+{
+    UNREAD(fault);
+    return syslogbox_proved_packet(dialect, year, offset_minutes, octets(packet, len), len, space(out, room), room,
+                                   fault);
+}
+
+size_t syslogbox_trimmed(const uint8_t *frame, size_t len)
+{
+    return syslogbox_proved_trimmed(octets(frame, len), len);
+}
+
+int64_t syslogbox_common(const uint8_t *left, size_t left_len, const uint8_t *right, size_t right_len, uint8_t *out,
+                         size_t room, struct syslogbox_fault *fault)
+{
+    UNREAD(fault);
+    return syslogbox_proved_common(octets(left, left_len), left_len, octets(right, right_len), right_len,
+                                   space(out, room), room, fault);
+}
+
+int64_t syslogbox_minus(const uint8_t *left, size_t left_len, const uint8_t *right, size_t right_len, uint8_t *out,
+                        size_t room, struct syslogbox_fault *fault)
+{
+    UNREAD(fault);
+    return syslogbox_proved_minus(octets(left, left_len), left_len, octets(right, right_len), right_len,
+                                  space(out, room), room, fault);
+}
+
+static struct syslogbox_text lent(struct syslogbox_text text)
+{
+    return (struct syslogbox_text){octets(text.at, text.len), text.len};
+}
+
+int64_t syslogbox_select(const struct syslogbox_condition *condition, const uint8_t *archive, size_t len, uint8_t *out,
+                         size_t room, struct syslogbox_fault *fault)
+{
+    UNREAD(fault);
+    struct syslogbox_condition all = *condition;
+
+    all.hostname = lent(all.hostname);
+    all.app_name = lent(all.app_name);
+    return syslogbox_proved_select(&all, octets(archive, len), len, space(out, room), room, fault);
+}
+
+int64_t syslogbox_digest(int period, const uint8_t *archive, size_t len, uint8_t *out, size_t room,
+                         struct syslogbox_fault *fault)
+{
+    UNREAD(fault);
+    return syslogbox_proved_digest(period, octets(archive, len), len, space(out, room), room, fault);
+}
+
+int syslogbox_scan(int framing, size_t longest, const uint8_t *piece, size_t len, struct syslogbox_scanner *scanner,
+                   struct syslogbox_found *found)
+{
+    return syslogbox_proved_scan(framing, longest, octets(piece, len), len, scanner, found);
+}
+
+static int has_null(const struct syslogbox_item *items, size_t count)
+{
+    for (size_t i = 0; i < count; i++)
+        if (!items[i].text.at)
+            return 1;
+    return 0;
+}
+
+/* The items, if one has a null pointer a copy of them without; NULL if there is no memory for that. */
+static struct syslogbox_item *copied(const struct syslogbox_item *items, size_t count)
+{
+    struct syslogbox_item *copy = count > SIZE_MAX / sizeof *copy ? NULL : malloc(count * sizeof *copy);
+
+    for (size_t i = 0; copy && i < count; i++)
+        copy[i] = (struct syslogbox_item){items[i].part, lent(items[i].text)};
+    return copy;
+}
+
+int64_t syslogbox_build(const struct syslogbox_fields *fields, uint8_t *out, size_t room, struct syslogbox_fault *fault)
+{
+    UNREAD(fault);
+    struct syslogbox_fields all = *fields;
+    struct syslogbox_item *copy = NULL;
+    int64_t answer;
+
+    all.hostname = lent(all.hostname);
+    all.app_name = lent(all.app_name);
+    all.proc_id = lent(all.proc_id);
+    all.msg_id = lent(all.msg_id);
+    all.message = lent(all.message);
+    if (!all.item_count) {
+        all.items = &no_item;
+    } else if (has_null(all.items, all.item_count)) {
+        if (!(copy = copied(all.items, all.item_count))) {
+            *fault = (struct syslogbox_fault){SYSLOGBOX_NO_MEMORY, SYSLOGBOX_NO_FIELD, 0};
+            return -1;
+        }
+        all.items = copy;
+    }
+    answer = syslogbox_proved_build(&all, space(out, room), room, fault);
+    free(copy);
+    return answer;
 }

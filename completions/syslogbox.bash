@@ -5,13 +5,13 @@
 _syslogbox_options() {
     case "$1" in
         show)
-            echo "--framing --trim --legacy --zone --dialect --json --help"
+            echo "--framing --trim --legacy --zone --dialect --endless --json --help"
             ;;
         check)
-            echo "--framing --trim --legacy --zone --dialect --summary --help"
+            echo "--framing --trim --legacy --zone --dialect --endless --summary --help"
             ;;
         convert)
-            echo "--framing --trim --legacy --zone --dialect --to --help"
+            echo "--framing --trim --legacy --zone --dialect --endless --to --help"
             ;;
         archive)
             echo "--framing --trim --legacy --zone --dialect --spill --memory --help"

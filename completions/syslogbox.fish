@@ -37,6 +37,7 @@ complete -c syslogbox -n "__fish_seen_subcommand_from show check convert archive
 complete -c syslogbox -n "__fish_seen_subcommand_from show check convert archive collect serve" -l legacy -x -d 'Also read legacy packets'
 complete -c syslogbox -n "__fish_seen_subcommand_from show check convert archive collect serve" -l zone -x -d 'Offset of their times from UTC'
 complete -c syslogbox -n "__fish_seen_subcommand_from show check convert archive collect serve" -l dialect -x -a 'bsd wide' -d 'Dialect of legacy packets'
+complete -c syslogbox -n "__fish_seen_subcommand_from show check convert" -l endless -d 'Read an input of any length, which otherwise may have at most 4 GiB'
 complete -c syslogbox -n "__fish_seen_subcommand_from show" -l json -d 'Write each record as one line of JSON'
 complete -c syslogbox -n "__fish_seen_subcommand_from check" -l summary -d 'At the end, print how many packets were legacy, and how many of these had no time or no host'
 complete -c syslogbox -n "__fish_seen_subcommand_from convert" -l to -x -a 'counted lf' -d 'Framing of the output'

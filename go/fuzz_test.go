@@ -34,6 +34,10 @@ func FuzzRecord(f *testing.F) {
 		if err != nil || !bytes.Equal(again, text) {
 			t.Fatalf("%q for %q: %v", again, text, err)
 		}
+		built, err := shown.Build()
+		if err != nil || !bytes.Equal(built, text) {
+			t.Fatalf("%q for %q: %v", built, text, err)
+		}
 		same, err := View(text)
 		line := shown.AppendJSON(nil)
 		if err != nil || !bytes.Equal(line, same.AppendJSON(nil)) || !json.Valid(line) {

@@ -2,7 +2,6 @@ package syslogbox
 
 import (
 	"bufio"
-	"bytes"
 	"context"
 	"errors"
 	"fmt"
@@ -42,10 +41,10 @@ type Reader struct {
 
 	held     []byte // octets that were read, and not yet given
 	failed   error  // what the source said behind them
-	number   int    // how many frames were begun
+	number   int    // how many frames were given
 	position int64  // how many octets came before those that are held
-	left     int64  // how many octets of a frame that is too long have still to come
-	inLine   bool   // whether a line that is too long has still to end
+	begun    int64  // where the frame under way begins
+	scanner  scanner
 }
 
 // NewReader returns a Reader of a stream. Frames of more than FrameMax octets are too long, unless Longest says
@@ -69,29 +68,21 @@ func (r *Reader) Read() (*Record, error) {
 // its next octets. A later call goes on from there.
 func (r *Reader) ReadContext(ctx context.Context) (*Record, error) {
 	for {
-		if err := r.passOver(ctx); err != nil {
-			return nil, r.ended(err)
-		}
-		start, end, taken, err := bounds(r.framing, r.held)
+		found, err := r.scanner.next(r.framing, r.longest, r.held)
 		if count := (*CountError)(nil); errors.As(err, &count) {
 			return nil, &CountError{int(r.position) + count.Offset}
 		}
-		switch {
-		case err != nil:
+		if err != nil {
 			return nil, err
-		case taken > 0 && end-start <= r.longest:
-			return r.record(start, end, taken)
-		case taken > 0:
-			return nil, r.tooLong(taken)
-		case end-start > r.longest:
-			return nil, r.tooLong(end)
-		case r.framing == LF && len(r.held) > r.longest:
-			r.inLine = true
-			return nil, r.tooLong(len(r.held))
 		}
-		if err := r.fill(ctx); err != nil {
-			return nil, r.ended(err)
+		if found.what == waits {
+			r.drop(found.used)
+			if err := r.fill(ctx); err != nil {
+				return nil, r.ended(err)
+			}
+			continue
 		}
+		return r.record(found)
 	}
 }
 
@@ -111,51 +102,21 @@ func (r *Reader) All() func(yield func(*Record, error) bool) {
 	}
 }
 
-// record takes a whole frame.
-func (r *Reader) record(start, end, taken int) (*Record, error) {
-	frame := append([]byte(nil), r.held[start:end]...)
-	position := r.position
+// record takes a frame, of which nothing is known if it is too long.
+func (r *Reader) record(found found) (*Record, error) {
+	frame := append([]byte(nil), r.held[found.start:found.end]...)
+	position := r.begun
 	r.number++
-	r.drop(taken)
+	r.drop(found.used)
+	r.begun = r.position
+	if found.what == tooLong {
+		return nil, &FrameError{r.number, position, nil, longerThan(r.longest)}
+	}
 	record, err := View(frame)
 	if err != nil {
 		return nil, &FrameError{r.number, position, frame, err}
 	}
 	return record, nil
-}
-
-// tooLong tells of a frame, of which the next call passes over so many octets.
-func (r *Reader) tooLong(octets int) error {
-	r.number++
-	r.left = int64(octets)
-	return &FrameError{r.number, r.position, nil, longerThan(r.longest)}
-}
-
-// passing says whether the stream is inside a frame that is too long.
-func (r *Reader) passing() bool { return r.left > 0 || r.inLine }
-
-// passOver drops what is left of a frame that is too long.
-func (r *Reader) passOver(ctx context.Context) error {
-	for r.passing() {
-		if len(r.held) == 0 {
-			if err := r.fill(ctx); err != nil {
-				return err
-			}
-		}
-		if r.left == 0 {
-			r.left = int64(len(r.held))
-			if at := bytes.IndexByte(r.held, '\n'); at >= 0 {
-				r.left, r.inLine = int64(at+1), false
-			}
-		}
-		here := len(r.held)
-		if r.left < int64(here) {
-			here = int(r.left)
-		}
-		r.left -= int64(here)
-		r.drop(here)
-	}
-	return nil
 }
 
 func (r *Reader) drop(octets int) {
@@ -165,7 +126,7 @@ func (r *Reader) drop(octets int) {
 
 // ended is what the end of the source is to the reader: io.EOF between two frames alone.
 func (r *Reader) ended(err error) error {
-	if err != io.EOF || len(r.held) == 0 && !r.passing() {
+	if err != io.EOF || len(r.held) == 0 && !r.scanner.passing() {
 		return err
 	}
 	return fmt.Errorf("syslogbox: the stream ends inside a frame: %w", io.ErrUnexpectedEOF)

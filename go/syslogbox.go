@@ -4,6 +4,7 @@ package syslogbox
 
 /*
 #cgo pkg-config: syslogbox
+#include <stdlib.h>
 #include <syslogbox.h>
 */
 import "C"
@@ -41,6 +42,10 @@ const (
 	NoElement    Kind = C.SYSLOGBOX_NO_ELEMENT
 	NoParam      Kind = C.SYSLOGBOX_NO_PARAM
 	TooLong      Kind = C.SYSLOGBOX_RECORD_TOO_LONG
+	BadDialect   Kind = C.SYSLOGBOX_BAD_DIALECT
+	BadField     Kind = C.SYSLOGBOX_BAD_FIELD
+	BadItem      Kind = C.SYSLOGBOX_BAD_ITEM
+	BadPeriod    Kind = C.SYSLOGBOX_BAD_PERIOD
 )
 
 // The fields of RFC 5424, section 6, and the names of the two archives.
@@ -70,7 +75,8 @@ var kinds = map[Kind]string{
 	BadFrame: "bad frame", EntryTooLong: "entry too long", BadEntry: "entry that is not a record",
 	NotCanonical: "entry that is not canonical", NotAscending: "entry that does not ascend", NoRoom: "no room",
 	NoMemory: "no memory", BadClock: "bad clock", NoElement: "no such element", NoParam: "no such parameter",
-	TooLong: "record too long",
+	TooLong: "record too long", BadDialect: "no such dialect", BadField: "bad field", BadItem: "bad item",
+	BadPeriod: "no such period",
 }
 
 var fields = map[Field]string{
@@ -184,11 +190,31 @@ func number(n int) C.int {
 	return C.int(n)
 }
 
+// Trimmed returns the frame without the line end or the NUL that a sender may have put behind the record, as the option
+// --trim of the program does.
+func Trimmed(frame []byte) []byte {
+	return frame[:C.syslogbox_trimmed(octets(frame), C.size_t(len(frame)))]
+}
+
+// Dialect says which spellings of legacy packets are understood.
+type Dialect int32
+
+// The packets of RFC 3164, section 4; and those together with what devices and programs send besides.
+const (
+	BSD  Dialect = C.SYSLOGBOX_BSD
+	Wide Dialect = C.SYSLOGBOX_WIDE
+)
+
 // Legacy returns the canonical form of the record that a packet is read as, in a year and so many minutes ahead of UTC.
 func Legacy(year, offsetMinutes int, packet []byte) ([]byte, error) {
+	return BSD.Legacy(year, offsetMinutes, packet)
+}
+
+// Legacy does what the function Legacy does, of packets in this dialect.
+func (d Dialect) Legacy(year, offsetMinutes int, packet []byte) ([]byte, error) {
 	return text(2*len(packet)+64, func(out *C.uint8_t, room C.size_t, fault *C.struct_syslogbox_fault) C.int64_t {
-		year, minutes := number(year), number(offsetMinutes)
-		return C.syslogbox_legacy(year, minutes, octets(packet), C.size_t(len(packet)), out, room, fault)
+		dialect, year, minutes := C.int(d), number(year), number(offsetMinutes)
+		return C.syslogbox_packet(dialect, year, minutes, octets(packet), C.size_t(len(packet)), out, room, fault)
 	})
 }
 
@@ -197,6 +223,106 @@ func Union(left, right []byte) ([]byte, error) {
 	return text(len(left)+len(right), func(out *C.uint8_t, room C.size_t, fault *C.struct_syslogbox_fault) C.int64_t {
 		return C.syslogbox_union(octets(left), C.size_t(len(left)), octets(right), C.size_t(len(right)), out, room, fault)
 	})
+}
+
+// Common returns the archive of the records that both archives have.
+func Common(left, right []byte) ([]byte, error) {
+	return text(len(left), func(out *C.uint8_t, room C.size_t, fault *C.struct_syslogbox_fault) C.int64_t {
+		return C.syslogbox_common(octets(left), C.size_t(len(left)), octets(right), C.size_t(len(right)), out, room, fault)
+	})
+}
+
+// Minus returns the archive of the records that the left archive has, and the right one has not.
+func Minus(left, right []byte) ([]byte, error) {
+	return text(len(left), func(out *C.uint8_t, room C.size_t, fault *C.struct_syslogbox_fault) C.int64_t {
+		return C.syslogbox_minus(octets(left), C.size_t(len(left)), octets(right), C.size_t(len(right)), out, room, fault)
+	})
+}
+
+// Severity gives a pointer to a severity, for a Condition.
+func Severity(severity int) *int { return &severity }
+
+// Condition says which records are selected: those that meet all of it. The zero Condition selects each.
+type Condition struct {
+	From, To          time.Time // from this instant on, and before that one; a zero time is no bound
+	Undated           bool      // records without a time are taken, though there is a bound
+	Severity          *int      // this one, and all that are more severe; nil for each
+	Hostname, AppName string    // the very word; "" for any
+}
+
+// memory has octets outside Go's memory, to which structs of C may point.
+type memory struct{ blocks []unsafe.Pointer }
+
+func (m *memory) text(octets string) C.struct_syslogbox_text {
+	if octets == "" {
+		return C.struct_syslogbox_text{}
+	}
+	block := C.CBytes([]byte(octets))
+	m.blocks = append(m.blocks, block)
+	return C.struct_syslogbox_text{(*C.uint8_t)(block), C.size_t(len(octets))}
+}
+
+func (m *memory) free() {
+	for _, block := range m.blocks {
+		C.free(block)
+	}
+}
+
+func mark(is bool) C.uint32_t {
+	if is {
+		return 1
+	}
+	return 0
+}
+
+// small gives a number of C, which for one that has none is out of each call's range too.
+func small(n int) C.uint32_t {
+	if n < 0 || n > math.MaxInt32 {
+		return math.MaxUint32
+	}
+	return C.uint32_t(n)
+}
+
+// Select returns the archive of the records of an archive that meet a condition.
+func Select(archive []byte, condition Condition) ([]byte, error) {
+	var m memory
+	defer m.free()
+	asked := C.struct_syslogbox_condition{
+		has_from: mark(!condition.From.IsZero()), has_to: mark(!condition.To.IsZero()), undated: mark(condition.Undated),
+		hostname: m.text(condition.Hostname), app_name: m.text(condition.AppName),
+	}
+	asked.from, asked.to = C.int64_t(condition.From.UnixMicro()), C.int64_t(condition.To.UnixMicro())
+	if condition.Severity != nil {
+		asked.has_severity, asked.severity = 1, small(*condition.Severity)
+	}
+	return text(len(archive), func(out *C.uint8_t, room C.size_t, fault *C.struct_syslogbox_fault) C.int64_t {
+		return C.syslogbox_select(&asked, octets(archive), C.size_t(len(archive)), out, room, fault)
+	})
+}
+
+// Period says how long the periods of a digest are, in UTC.
+type Period int32
+
+// The periods of a digest.
+const (
+	Month Period = C.SYSLOGBOX_MONTH
+	Day   Period = C.SYSLOGBOX_DAY
+	Hour  Period = C.SYSLOGBOX_HOUR
+)
+
+// Digest returns the digest of an archive, as `syslogbox digest` prints it: a line for each period that has records,
+// and one for all of them.
+func Digest(archive []byte, by Period) ([]byte, error) {
+	for room := 4096; ; {
+		digest, err := text(room, func(out *C.uint8_t, room C.size_t, fault *C.struct_syslogbox_fault) C.int64_t {
+			return C.syslogbox_digest(C.int(by), octets(archive), C.size_t(len(archive)), out, room, fault)
+		})
+		fault, refused := err.(*Fault)
+		if !refused || fault.Kind != NoRoom {
+			return digest, err
+		}
+		room = int(fault.Offset)
+	}
 }
 
 // ArchiveRoot is how many records an archive has, and the hash of their Merkle tree (RFC 9162, section 2.1.1).
@@ -240,6 +366,51 @@ type Record struct {
 	Elements                         []Element
 	BOM                              bool
 	Message                          []byte // without the BOM
+}
+
+// items gives the structured data as the library takes it, in C's memory, and how many octets it has.
+func (r *Record) items(m *memory) (*C.struct_syslogbox_item, C.size_t, int) {
+	count, size := 0, 0
+	for _, element := range r.Elements {
+		count += 1 + 2*len(element.Params)
+	}
+	if count == 0 {
+		return nil, 0, 0
+	}
+	block := C.calloc(C.size_t(count), C.sizeof_struct_syslogbox_item)
+	m.blocks = append(m.blocks, block)
+	items := unsafe.Slice((*C.struct_syslogbox_item)(block), count)[:0]
+	add := func(part C.uint32_t, octets string) {
+		items = append(items, C.struct_syslogbox_item{part: part, text: m.text(octets)})
+		size += len(octets)
+	}
+	for _, element := range r.Elements {
+		add(C.SYSLOGBOX_PART_ELEMENT_ID, element.ID)
+		for _, param := range element.Params {
+			add(C.SYSLOGBOX_PART_PARAM_NAME, param.Name)
+			add(C.SYSLOGBOX_PART_PARAM_VALUE, param.Value)
+		}
+	}
+	return &items[0], C.size_t(count), size
+}
+
+// Build returns the canonical form of the record of these parts. The error is a *Fault, whose Field is the one that is
+// refused.
+func (r *Record) Build() ([]byte, error) {
+	var m memory
+	defer m.free()
+	fields := C.struct_syslogbox_fields{
+		time: C.int64_t(r.Micros), has_time: mark(r.HasTime), facility: small(r.Facility), severity: small(r.Severity),
+		has_bom: mark(r.BOM), hostname: m.text(r.Hostname), app_name: m.text(r.AppName), proc_id: m.text(r.ProcID),
+		msg_id: m.text(r.MsgID), message: m.text(string(r.Message)),
+	}
+	var size int
+	fields.items, fields.item_count, size = r.items(&m)
+	size += len(r.Hostname) + len(r.AppName) + len(r.ProcID) + len(r.MsgID) + len(r.Message)
+	// a value may have an escape for each octet, and an item two octets and two marks more
+	return text(2*size+4*int(fields.item_count)+64, func(out *C.uint8_t, room C.size_t, fault *C.struct_syslogbox_fault) C.int64_t {
+		return C.syslogbox_build(&fields, out, room, fault)
+	})
 }
 
 // Time returns the instant in UTC, and false if the record has none.
@@ -349,6 +520,43 @@ func bounds(framing Framing, piece []byte) (start, end, taken int, err error) {
 		return 0, 0, 0, &CountError{int(from)}
 	}
 	return int(from), int(to), int(n), nil
+}
+
+// What a scanner finds first: nothing whole, a frame, or the end of one that is too long.
+const (
+	waits   = C.SYSLOGBOX_SCAN_WAITS
+	whole   = C.SYSLOGBOX_SCAN_FRAME
+	tooLong = C.SYSLOGBOX_SCAN_TOO_LONG
+)
+
+// found is what comes first in a piece of a stream: where a frame is, and how many octets are done with.
+type found struct{ what, used, start, end int }
+
+// scanner finds frames, and passes over those that are too long, in whatever pieces they come.
+type scanner struct{ state C.struct_syslogbox_scanner }
+
+// passing says whether the stream is inside a frame that is too long.
+func (s *scanner) passing() bool { return s.state.inside != 0 }
+
+// next says what comes first in a piece. The error is a *CountError if no frame begins so.
+func (s *scanner) next(framing Framing, longest int, piece []byte) (found, error) {
+	var at C.struct_syslogbox_found
+	most := C.size_t(max(longest, 0))
+	what := C.syslogbox_scan(C.int(framing), most, octets(piece), C.size_t(len(piece)), &s.state, &at)
+	switch what {
+	case C.SYSLOGBOX_SCAN_BROKEN:
+		return found{}, &CountError{int(at.start)}
+	case waits, whole, tooLong:
+		return found{int(what), int(at.used), int(at.start), int(at.end)}, nil
+	}
+	return found{}, fmt.Errorf("syslogbox: there is no framing %d", int(framing))
+}
+
+func max(a, b int) int {
+	if a > b {
+		return a
+	}
+	return b
 }
 
 // Next returns the next frame of a stream that begins with the piece, and how many octets it takes: 0 if none is whole

@@ -1,9 +1,9 @@
 /*
  * libsyslogbox: syslog records (RFC 5424), frames of streams (RFC 6587), legacy packets (RFC 3164) and archives.
  *
- * Behind each call that takes octets stands a function that is proved to meet its contract. The calls keep no state and
- * touch no file: octets and lengths go in, what comes out goes into the caller's memory. They may be called from any
- * thread.
+ * Behind each call that takes octets stands a function that is proved to meet its contract. The calls keep no state but
+ * a scanner of the caller's, and touch no file: octets and lengths go in, what comes out goes into the caller's memory.
+ * They may be called from any thread, with a scanner from one at a time.
  *
  * For every call:
  * - `len` octets can be read at its pointer, and `room` octets written at `out`. They do not overlap, nor with the
@@ -11,8 +11,8 @@
  * - `fault` may be null if the caller needs no reason. It is written if the call fails, and left alone otherwise. A call
  *   that fails leaves `out`, `spans`, `parts`, `element` and `param` as they were.
  * - Offsets and lengths count octets, from 0 on.
- * - syslogbox_check, _view, _spans, _element, _param, _frame and _pass take no memory. The others call malloc, and fail
- *   with SYSLOGBOX_NO_MEMORY if it fails.
+ * - syslogbox_check, _view, _spans, _element, _param, _frame, _pass, _scan and _trimmed take no memory. The others call
+ *   malloc, and fail with SYSLOGBOX_NO_MEMORY if it fails.
  * - No record of more than SYSLOGBOX_ENTRY_MAX octets is read: calls fail with SYSLOGBOX_RECORD_TOO_LONG.
  * - On the stack a record of up to 2,000 octets took less than 32 KiB, and any other at most 1 MiB: most of it if there
  *   are thousands of elements. A thread with less room may overflow.
@@ -31,7 +31,7 @@ extern "C" {
  * The version of this header: 10,000 times its first number, 100 times the second, and the third. The name
  * SYSLOGBOX_VERSION is a field of records, below.
  */
-#define SYSLOGBOX_LIBRARY_VERSION 800
+#define SYSLOGBOX_LIBRARY_VERSION 900
 
 /*
  * The version of the library that is called, in the same form. A shared library may be newer than the header that the
@@ -64,7 +64,15 @@ enum syslogbox_kind {
     SYSLOGBOX_BAD_CLOCK = 12,     /* the year or the offset from UTC is out of range; the offset is 0 */
     SYSLOGBOX_NO_ELEMENT = 13,    /* there is no such element: there are `offset` of them */
     SYSLOGBOX_NO_PARAM = 14,      /* there is no such parameter: there are `offset` of them */
-    SYSLOGBOX_RECORD_TOO_LONG = 15 /* the record has more than SYSLOGBOX_ENTRY_MAX octets, which is the offset */
+    SYSLOGBOX_RECORD_TOO_LONG = 15, /* the record has more than SYSLOGBOX_ENTRY_MAX octets, which is the offset */
+    SYSLOGBOX_BAD_DIALECT = 16,    /* there is no such dialect; the offset is 0 */
+    SYSLOGBOX_BAD_FIELD = 17,      /* of a call that writes a record or asks for one: `field` may not be so. The offset
+                                      is that of the first octet that a word may not have; how many it may have, if
+                                      there are more; else 0, as of "-" */
+    SYSLOGBOX_BAD_ITEM = 18,       /* item number `offset`, from 0 on, of structured data is refused: it may not stand
+                                      there, or it is no name, or no UTF-8. If it is the number of items, a value is
+                                      missing */
+    SYSLOGBOX_BAD_PERIOD = 19      /* there is no such period; the offset is 0 */
 };
 
 /* Where: a field of RFC 5424, section 6, or which archive. */
@@ -228,6 +236,45 @@ int64_t syslogbox_frame(int framing, const uint8_t *piece, size_t len, size_t *s
  */
 int64_t syslogbox_pass(int framing, const uint8_t *piece, size_t len, size_t *count);
 
+/* What a scanner found first in a piece of a stream. */
+enum syslogbox_scanned {
+    SYSLOGBOX_SCAN_WAITS = 0,   /* no end of a frame. If `used` is 0, give the piece again with more octets behind it;
+                                   else all of it belongs to a frame that is too long, and the next piece follows it */
+    SYSLOGBOX_SCAN_FRAME = 1,   /* a frame: the octets from `start` to `end`, not including `end` */
+    SYSLOGBOX_SCAN_TOO_LONG = 2, /* the end of a frame of more than `longest` octets, all of them passed over */
+    SYSLOGBOX_SCAN_BROKEN = -1  /* no frame begins so: the octet at `start`, which is `end` too, cannot belong to a
+                                   count */
+};
+
+/* What a scanner keeps between two pieces, all zeros before the first: 16 octets, which are its own. */
+struct syslogbox_scanner {
+    uint32_t inside;
+    uint64_t left;
+};
+
+/* Where it is in the piece, of which `used` octets are done with: the next piece begins behind them. */
+struct syslogbox_found {
+    size_t used, start, end;
+};
+
+/*
+ * What comes first in a piece of a stream: a number of enum syslogbox_scanned; or -2 if there is no such framing, and
+ * nothing was written. Frames of up to `longest` octets are found in the piece itself; the octets of a longer one are
+ * passed over as they come, in whatever pieces, and its end is told. With SYSLOGBOX_FRAME_MAX that is what the program
+ * does. A caller that reads a stream needs room for `longest` octets and a count, which has eleven at most with its
+ * space; the call takes linear time in the octets of the piece, and those of a line that is not whole are looked at
+ * again each time.
+ */
+int syslogbox_scan(int framing, size_t longest, const uint8_t *piece, size_t len, struct syslogbox_scanner *scanner,
+                   struct syslogbox_found *found);
+
+/*
+ * How many octets of a frame are left without the line end or the NUL that a sender may have put behind the record: CR
+ * LF, else LF, else CR, else NUL is dropped from its end. Give any call that reads a record, or a packet, that many
+ * octets: it then reads what `--trim` reads. Whether a frame is too long is a question of all its octets.
+ */
+size_t syslogbox_trimmed(const uint8_t *frame, size_t len);
+
 /*
  * Writes the archive of the records of two archives and returns how many octets it has; or -1, with the fault (of an
  * archive, of the left one first; NO_ROOM, NO_MEMORY). An archive is a set of records: the canonical octets of each,
@@ -236,6 +283,54 @@ int64_t syslogbox_pass(int framing, const uint8_t *piece, size_t len, size_t *co
  */
 int64_t syslogbox_union(const uint8_t *left, size_t left_len, const uint8_t *right, size_t right_len, uint8_t *out,
                         size_t room, struct syslogbox_fault *fault);
+
+/*
+ * As syslogbox_union, of the records that both archives have; and of those that the left one has and the right one
+ * lacks. As many octets as the left archive has are always enough.
+ */
+int64_t syslogbox_common(const uint8_t *left, size_t left_len, const uint8_t *right, size_t right_len, uint8_t *out,
+                         size_t room, struct syslogbox_fault *fault);
+int64_t syslogbox_minus(const uint8_t *left, size_t left_len, const uint8_t *right, size_t right_len, uint8_t *out,
+                        size_t room, struct syslogbox_fault *fault);
+
+/* Octets of the caller. */
+struct syslogbox_text {
+    const uint8_t *at;
+    size_t len;
+};
+
+/* What records have to meet, all of it. All zeros are no condition: each record meets it. */
+struct syslogbox_condition {
+    int64_t from, to;          /* from this instant on, and before that one; microseconds from 1970-01-01T00:00:00Z */
+    uint32_t has_from, has_to; /* 0: there is no such bound */
+    uint32_t undated;          /* not 0: records without a time are taken, though there is a bound */
+    uint32_t has_severity;     /* 0: each severity is taken */
+    uint32_t severity;         /* 0 to 7: this one, and all that are more severe */
+    struct syslogbox_text hostname, app_name; /* the very word; without octets, any */
+};
+
+/*
+ * Writes the archive of those records of an archive that meet the condition, and returns how many octets it has; or -1,
+ * with the fault (INSTANT_RANGE of a bound, whose offset is 0; BAD_FIELD of the severity; of an archive; NO_ROOM,
+ * NO_MEMORY). `len` octets are always enough.
+ */
+int64_t syslogbox_select(const struct syslogbox_condition *condition, const uint8_t *archive, size_t len, uint8_t *out,
+                         size_t room, struct syslogbox_fault *fault);
+
+/* How long the periods of a digest are, in UTC. */
+enum syslogbox_period {
+    SYSLOGBOX_MONTH = 1, /* as 2026-11 */
+    SYSLOGBOX_DAY = 2,   /* as 2026-11-25 */
+    SYSLOGBOX_HOUR = 3   /* as 2026-11-25T10 */
+};
+
+/*
+ * Writes the digest of an archive, the lines of `syslogbox digest`, and returns how many octets it has; or -1, with the
+ * fault (BAD_PERIOD; of an archive; NO_ROOM, NO_MEMORY). A line for each period that has records, `PERIOD COUNT OCTETS
+ * SHA256`, and one for all, which begins with `total`: 121 octets each at most.
+ */
+int64_t syslogbox_digest(int period, const uint8_t *archive, size_t len, uint8_t *out, size_t room,
+                         struct syslogbox_fault *fault);
 
 /* How many records an archive has, and the hash of their Merkle tree (RFC 9162, section 2.1.1), a leaf for each record. */
 struct syslogbox_root {
@@ -258,6 +353,50 @@ int syslogbox_root(const uint8_t *archive, size_t len, struct syslogbox_root *ro
  */
 int64_t syslogbox_legacy(int year, int offset_minutes, const uint8_t *packet, size_t len, uint8_t *out, size_t room,
                          struct syslogbox_fault *fault);
+
+/* An item of structured data. */
+struct syslogbox_item {
+    uint32_t part;              /* SYSLOGBOX_PART_ELEMENT_ID, _PARAM_NAME or _PARAM_VALUE */
+    struct syslogbox_text text; /* of a value, what is meant, without escapes: UTF-8 */
+};
+
+/*
+ * The fields of a record that is to be written. A word without octets is "-". All zeros but for a severity are a record
+ * without words, structured data and message.
+ */
+struct syslogbox_fields {
+    int64_t time;      /* microseconds from 1970-01-01T00:00:00Z, from the year 0 to 9999 */
+    uint32_t has_time; /* 0: there is no time */
+    uint32_t facility; /* 0 to 23 */
+    uint32_t severity; /* 0 to 7 */
+    uint32_t has_bom;  /* 0: the message is any octets that do not start with the BOM; else it is UTF-8, and gets the
+                          BOM */
+    struct syslogbox_text hostname, app_name, proc_id, msg_id;
+    const struct syslogbox_item *items; /* of each element its id, and then the name and the value of each parameter */
+    size_t item_count;
+    struct syslogbox_text message;
+};
+
+/*
+ * Writes the canonical octets of the record of these fields, and returns how many they are; or -1, with the fault:
+ * BAD_FIELD; INSTANT_RANGE of the time; BAD_ITEM; REPEATED_ID, if two elements have one id; NOT_UTF8 of the message;
+ * RECORD_TOO_LONG, if the record is longer than any that is read; NO_ROOM, NO_MEMORY. The offsets of INSTANT_RANGE and
+ * REPEATED_ID are 0.
+ */
+int64_t syslogbox_build(const struct syslogbox_fields *fields, uint8_t *out, size_t room,
+                        struct syslogbox_fault *fault);
+
+/* Which spellings of legacy packets are understood. */
+enum syslogbox_dialect {
+    SYSLOGBOX_BSD = 1, /* those of RFC 3164, section 4, as by syslogbox_legacy */
+    SYSLOGBOX_WIDE = 2 /* those, and what devices and programs send besides: a space behind PRI; timestamps of RFC 5424,
+                          and ones with a year, a fraction, a mark before them or a colon behind them; packets without a
+                          host; NAME[PROCID] without a colon */
+};
+
+/* As syslogbox_legacy, of packets in a dialect; it fails with BAD_DIALECT if there is none of this number. */
+int64_t syslogbox_packet(int dialect, int year, int offset_minutes, const uint8_t *packet, size_t len, uint8_t *out,
+                         size_t room, struct syslogbox_fault *fault);
 
 #ifdef __cplusplus
 }

@@ -13,16 +13,17 @@ Octets are `bytes`; offsets count them from 0. What is refused raises an excepti
 octet. The library is the one that the environment variable SYSLOGBOX_LIBRARY names, or the one in this folder, or the
 system's.
 """
-from ._archives import Root, root, union
-from ._faults import ArchiveError, Field, Kind, PacketError, RecordError, StreamError, SyslogError
+from ._archives import Period, Root, common, digest, minus, root, select, union
+from ._faults import ArchiveError, Field, FieldError, Kind, PacketError, RecordError, StreamError, SyslogError
 from ._library import library_version
 from ._logging import Formatter, Handler, Writable
-from ._records import Element, Record, canonical, check, is_record, legacy, view
+from ._records import Dialect, Element, Record, build, canonical, check, is_record, legacy, trimmed, view
 from ._streams import (ENTRY_MAX, FRAME_MAX, Framing, Readable, Refusal, Source, check_all, check_stream, framed,
                        frames, records)
 
-__all__ = ["ENTRY_MAX", "FRAME_MAX", "ArchiveError", "Element", "Field", "Formatter", "Framing", "Handler", "Kind",
-           "PacketError", "Readable", "Record", "RecordError", "Refusal", "Root", "Source", "StreamError",
-           "SyslogError", "Writable", "canonical", "check", "check_all", "check_stream", "framed", "frames",
-           "is_record", "legacy", "library_version", "records", "root", "union", "view"]
-__version__ = "0.8.0"
+__all__ = ["ArchiveError", "Dialect", "ENTRY_MAX", "Element", "FRAME_MAX", "Field", "FieldError", "Formatter",
+           "Framing", "Handler", "Kind", "PacketError", "Period", "Readable", "Record", "RecordError", "Refusal",
+           "Root", "Source", "StreamError", "SyslogError", "Writable", "build", "canonical", "check", "check_all",
+           "check_stream", "common", "digest", "framed", "frames", "is_record", "legacy", "library_version", "minus",
+           "records", "root", "select", "trimmed", "union", "view"]
+__version__ = "0.9.0"

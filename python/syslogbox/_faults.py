@@ -23,6 +23,10 @@ class Kind(enum.IntEnum):
     NO_ELEMENT = 13
     NO_PARAM = 14
     RECORD_TOO_LONG = 15
+    BAD_DIALECT = 16
+    BAD_FIELD = 17
+    BAD_ITEM = 18
+    BAD_PERIOD = 19
     # of a stream, told by this package alone
     BAD_COUNT = 101
     TOO_LONG = 102
@@ -80,6 +84,12 @@ class SyslogError(ValueError):
 
 class RecordError(SyslogError):
     """Octets are not a record of RFC 5424."""
+
+    __module__ = "syslogbox"
+
+
+class FieldError(SyslogError):
+    """A record cannot have such a field; `field` says which."""
 
     __module__ = "syslogbox"
 

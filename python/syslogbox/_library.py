@@ -36,10 +36,47 @@ class Parts(ctypes.Structure):
     ]
 
 
+class Text(ctypes.Structure):
+    _fields_ = [("at", ctypes.c_char_p), ("len", ctypes.c_size_t)]
+
+
+class Item(ctypes.Structure):
+    _fields_ = [("part", ctypes.c_uint32), ("text", Text)]
+
+
+class Fields(ctypes.Structure):
+    _fields_ = [
+        ("time", ctypes.c_int64),
+        *((name, ctypes.c_uint32) for name in ("has_time", "facility", "severity", "has_bom")),
+        *((name, Text) for name in ("hostname", "app_name", "proc_id", "msg_id")),
+        ("items", ctypes.POINTER(Item)),
+        ("item_count", ctypes.c_size_t),
+        ("message", Text),
+    ]
+
+
+class Condition(ctypes.Structure):
+    _fields_ = [
+        ("start", ctypes.c_int64), ("end", ctypes.c_int64),
+        *((name, ctypes.c_uint32) for name in ("has_start", "has_end", "undated", "has_severity", "severity")),
+        ("hostname", Text), ("app_name", Text),
+    ]
+
+
+class Scanner(ctypes.Structure):
+    _fields_ = [("inside", ctypes.c_uint32), ("left", ctypes.c_uint64)]
+
+
+class Found(ctypes.Structure):
+    _fields_ = [("used", ctypes.c_size_t), ("start", ctypes.c_size_t), ("end", ctypes.c_size_t)]
+
+
+#: numbers of enum syslogbox_scanned
+WAITS, FRAME, TOO_LONG, BROKEN = 0, 1, 2, -1
 #: struct syslogbox_part_span: the part, the offset and the length
 PART_SPAN = struct.Struct("@INN")
 #: numbers of enum syslogbox_part
-ELEMENT_ID, PARAM_NAME = 8, 9
+ELEMENT_ID, PARAM_NAME, PARAM_VALUE = 8, 9, 10
 #: how many fields come before the structured data
 FIELDS = 7
 
@@ -80,9 +117,16 @@ spans = _call("spans", ctypes.c_int64, OCTETS, SIZE, POINTER, SIZE, POINTER)
 value = _call("value", ctypes.c_int64, OCTETS, SIZE, POINTER, SIZE, POINTER)
 frame = _call("frame", ctypes.c_int64, ctypes.c_int, POINTER, SIZE, POINTER, POINTER)
 pass_over = _call("pass", ctypes.c_int64, ctypes.c_int, POINTER, SIZE, POINTER, library=_releasing)
+scan = _call("scan", ctypes.c_int, ctypes.c_int, SIZE, POINTER, SIZE, POINTER, POINTER)
+build = _call("build", ctypes.c_int64, POINTER, POINTER, SIZE, POINTER)
+common = _call("common", ctypes.c_int64, OCTETS, SIZE, OCTETS, SIZE, POINTER, SIZE, POINTER, library=_releasing)
+minus = _call("minus", ctypes.c_int64, OCTETS, SIZE, OCTETS, SIZE, POINTER, SIZE, POINTER, library=_releasing)
+select = _call("select", ctypes.c_int64, POINTER, OCTETS, SIZE, POINTER, SIZE, POINTER, library=_releasing)
+digest = _call("digest", ctypes.c_int64, ctypes.c_int, OCTETS, SIZE, POINTER, SIZE, POINTER, library=_releasing)
 union = _call("union", ctypes.c_int64, OCTETS, SIZE, OCTETS, SIZE, POINTER, SIZE, POINTER, library=_releasing)
 root = _call("root", ctypes.c_int, OCTETS, SIZE, POINTER, POINTER, library=_releasing)
-legacy = _call("legacy", ctypes.c_int64, ctypes.c_int, ctypes.c_int, OCTETS, SIZE, POINTER, SIZE, POINTER)
+packet = _call("packet", ctypes.c_int64, ctypes.c_int, ctypes.c_int, ctypes.c_int, OCTETS, SIZE, POINTER, SIZE, POINTER)
+trimmed = _call("trimmed", SIZE, OCTETS, SIZE)
 _version = _call("library_version", ctypes.c_uint32)
 _fault_text = _call("fault_text", ctypes.c_size_t, POINTER, POINTER, SIZE)
 
@@ -120,6 +164,11 @@ def whole(name: str, value: SupportsIndex) -> int:
         return operator.index(value)
     except TypeError:
         raise TypeError(f"{name} has to be an int, not {type(value).__name__}") from None
+
+
+def text_of(octets: bytes) -> Text:
+    """Octets that are lent to a call."""
+    return Text(octets, len(octets))
 
 
 def fault_text(kind: int, where: int, offset: int) -> str:

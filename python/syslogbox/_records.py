@@ -3,13 +3,14 @@ from __future__ import annotations
 
 import base64
 import ctypes
+import enum
 import json
 from dataclasses import dataclass, field
 from datetime import datetime, timedelta, timezone
 from typing import Any, Dict, Iterator, List, Optional, Tuple
 
 from . import _library as library
-from ._faults import Kind, PacketError, RecordError
+from ._faults import FieldError, Kind, PacketError, RecordError
 from ._library import SHORT
 from ._library import check as _check
 from ._library import check_short as _check_short
@@ -211,7 +212,59 @@ def _elements(record: bytes) -> Tuple[Element, ...]:
     return tuple(Element(name, tuple(params)) for name, params in elements)
 
 
-def legacy(packet: bytes, year: int, offset_minutes: int = 0) -> bytes:
+def _items(elements: Tuple[Element, ...]) -> Iterator[library.Item]:
+    for element in elements:
+        yield library.Item(library.ELEMENT_ID, library.text_of(element.id.encode()))
+        for name, value in element.params:
+            yield library.Item(library.PARAM_NAME, library.text_of(name.encode()))
+            yield library.Item(library.PARAM_VALUE, library.text_of(value.encode()))
+
+
+def _number(name: str, value: int) -> int:
+    """A number of C that is not negative; a number that is none there is out of each range."""
+    return min(library.whole(name, value) & 2 ** 64 - 1, 2 ** 32 - 1)
+
+
+def build(record: Record) -> bytes:
+    """The canonical form of the record of these parts. Raises FieldError, whose `field` is the one that is refused.
+
+    >>> build(Record(20, 5, None, None, "app", None, None, (Element("a@1", (("k", 'a "v"'),)),), b"hi"))
+    b'<165>1 - - app - - [a@1 k="a \\\\"v\\\\""] hi'
+    >>> build(Record(20, 5, None, "my host", None, None, None))
+    Traceback (most recent call last):
+        ...
+    syslogbox.FieldError: the hostname may not be so, from octet 2 on
+    """
+    items = list(_items(record.elements))
+    micros = 0 if record.micros is None else library.whole("micros", record.micros)
+    words = [library.text_of((word or "").encode())
+             for word in (record.hostname, record.app_name, record.proc_id, record.msg_id)]
+    fields = library.Fields(
+        min(max(micros, -2 ** 63), 2 ** 63 - 1), record.micros is not None, _number("facility", record.facility),
+        _number("severity", record.severity), record.bom, *words, (library.Item * len(items))(*items), len(items),
+        library.Text(record.message, library.size(record.message)))
+    octets = sum(item.text.len for item in items) + sum(word.len for word in words) + len(record.message)
+    # a value may have an escape for each octet, and an item two octets and two marks more
+    return library.text(FieldError, library.build, 2 * octets + 4 * len(items) + 64, ctypes.byref(fields))
+
+
+class Dialect(enum.IntEnum):
+    """Which spellings of legacy packets are understood: those of RFC 3164, or also what devices and programs send."""
+
+    BSD = 1
+    WIDE = 2
+
+
+def trimmed(frame: bytes) -> bytes:
+    """The frame without the line end or the NUL that a sender may have put behind the record, as by `--trim`.
+
+    >>> trimmed(b"<0>1 - - - - - -\\r\\n"), trimmed(b"a\\n\\n")
+    (b'<0>1 - - - - - -', b'a\\n')
+    """
+    return frame[:library.trimmed(frame, library.size(frame))]
+
+
+def legacy(packet: bytes, year: int, offset_minutes: int = 0, *, dialect: Dialect = Dialect.BSD) -> bytes:
     """The canonical form of the record that a packet is read as.
 
     A packet that begins as RFC 5424 requires is read by that standard, any other by RFC 3164, with times of this year,
@@ -219,12 +272,14 @@ def legacy(packet: bytes, year: int, offset_minutes: int = 0) -> bytes:
 
     >>> legacy(b"<13>Oct 11 22:14:15 h a[1]: x", 2003, 120)
     b'<13>1 2003-10-11T20:14:15.000000Z h a 1 - - x'
+    >>> legacy(b"<13>Oct 11 22:14:15.5 h a[1] x", 2003, dialect=Dialect.WIDE)
+    b'<13>1 2003-10-11T22:14:15.500000Z h a 1 - - x'
     """
     size, limits = library.size(packet), (-2 ** 31, 2 ** 31 - 1)
     numbers = library.whole("year", year), library.whole("offset_minutes", offset_minutes)
     clock = [min(max(number, limits[0]), limits[1]) for number in numbers]
     try:
-        return library.text(PacketError, library.legacy, 2 * size + 64, *clock, packet, size)
+        return library.text(PacketError, library.packet, 2 * size + 64, Dialect(dialect), *clock, packet, size)
     except PacketError as refused:
         if refused.kind in (Kind.NOT_UTF8, Kind.BAD_CLOCK):
             raise

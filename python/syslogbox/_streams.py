@@ -86,54 +86,30 @@ class _Stream:
     def drop(self, count: int) -> None:
         self.held, self.before = self.held[count:], self.before + count
 
-    def pass_over(self, count: Optional[int]) -> bool:
-        """Skips so many octets, or a line if no count is given; returns whether they came."""
-        while True:
-            ends = self.held.find(b"\n") + 1 if count is None else count
-            if 0 < ends <= len(self.held):
-                self.drop(ends)
-                return True
-            if count is not None:
-                count -= len(self.held)
-            self.drop(len(self.held))
-            if not self.more():
-                return False
 
-
-def _bounds(held: bytes, framing: int) -> Iterator[Tuple[int, int, int, int]]:
-    """Of each frame how many octets it takes, where it begins on the stream, and its own first and last; and at last of
-    what is no whole frame."""
-    start, end = ctypes.c_size_t(), ctypes.c_size_t()
-    to_start, to_end = ctypes.byref(start), ctypes.byref(end)
-    address = library.address(held)
-    at, taken = 0, 1
-    while taken > 0:
-        taken = library.frame(framing, address + at, len(held) - at, to_start, to_end)
-        yield taken, at, at + start.value, at + end.value
-        at += taken
-
-
-def _cut(source: Source, framing: Framing, longest: int, piece: int) -> Iterator[Tuple[int, Optional[bytes]]]:
+def _cut(source: Source, framing: int, longest: int, piece: int) -> Iterator[Tuple[int, Optional[bytes]]]:
     """Of each frame its position, and its octets unless they are more than `longest`."""
-    stream = _Stream(source, piece)
+    stream, longest, begun = _Stream(source, piece), min(max(longest, 0), 2 ** 62), 0
+    scanner, found = library.Scanner(), library.Found()
+    to_scanner, to_found = ctypes.byref(scanner), ctypes.byref(found)
     while True:
-        for taken, at, start, end in _bounds(stream.held, framing):
-            if taken > 0:
-                yield stream.before + at, stream.held[start:end] if end - start <= longest else None
-        if taken < 0:
-            raise StreamError(Kind.BAD_COUNT, 0, stream.before + start)
+        address, size, at, answer = library.address(stream.held), len(stream.held), 0, library.FRAME
+        while answer > 0:
+            answer = library.scan(framing, longest, address + at, size - at, to_scanner, to_found)
+            if answer == library.FRAME:
+                yield begun, stream.held[at + found.start:at + found.end]
+            elif answer == library.TOO_LONG:
+                yield begun, None
+            at += found.used
+            if answer > 0:
+                begun = stream.before + at
+        if answer == library.BROKEN:
+            raise StreamError(Kind.BAD_COUNT, 0, stream.before + at + found.start)
         stream.drop(at)
-        begins, going = stream.before, True
-        long_line = framing == Framing.LF and len(stream.held) > longest
-        if long_line or end - start > longest:
-            yield begins, None
-            going = stream.pass_over(None if long_line else end - at)
-        elif not stream.more():
-            going = False
-            if not stream.held:
-                return
-        if not going:
-            raise StreamError(Kind.UNTERMINATED, 0, begins)
+        if not stream.more():
+            if stream.held or scanner.inside:
+                raise StreamError(Kind.UNTERMINATED, 0, begun)
+            return
 
 
 def _datagrams(source: socket.socket, longest: int) -> Iterator[Tuple[int, Optional[bytes]]]:

@@ -3,8 +3,13 @@
  *
  *   calls records FILE              a line a record: its octets in hexadecimal, and `ok CANONICAL` or `KIND FIELD OFFSET`
  *   calls legacy YEAR OFFSET FILE   the same of packets under a clock
+ *   calls wide YEAR OFFSET FILE     the same in the wide dialect
+ *   calls trimmed FILE              a line a frame in hexadecimal, and what is left of it
  *   calls frames FRAMING FILE       prints for each frame of a stream what `check` prints of it
- *   calls union LEFT RIGHT          writes the union of two archives, or prints its fault
+ *   calls scan FRAMING LONGEST SEED FILE   prints for each frame of a stream, in random pieces, what `check` prints of it
+ *   calls union LEFT RIGHT          writes the union of two archives, or prints its fault; so do common and minus
+ *   calls select FROM TO UNDATED SEVERITY HOST APP FILE   writes the records that meet a condition; `-` is none
+ *   calls digest PERIOD FILE        writes the digest of an archive, or prints its fault
  *   calls root FILE                 prints the root of an archive, or its fault
  *   calls nulls                     null pointers with a length of 0, and what each fault says
  *   calls memory                    prints which calls fail for memory, under a malloc that fails (tests/lib/shim.c)
@@ -158,20 +163,56 @@ static int64_t value(const void *input, uint8_t *out, size_t room, struct syslog
 }
 
 struct packet {
-    int year, offset_minutes;
+    int dialect, year, offset_minutes;
     struct octets octets;
 };
 
 static int64_t legacy(const void *input, uint8_t *out, size_t room, struct syslogbox_fault *fault)
 {
     const struct packet *p = input;
-    return syslogbox_legacy(p->year, p->offset_minutes, p->octets.at, p->octets.len, out, room, fault);
+    if (p->dialect == SYSLOGBOX_BSD)
+        return syslogbox_legacy(p->year, p->offset_minutes, p->octets.at, p->octets.len, out, room, fault);
+    return syslogbox_packet(p->dialect, p->year, p->offset_minutes, p->octets.at, p->octets.len, out, room, fault);
 }
 
 static int64_t joined(const void *input, uint8_t *out, size_t room, struct syslogbox_fault *fault)
 {
     const struct octets *o = input;
     return syslogbox_union(o[0].at, o[0].len, o[1].at, o[1].len, out, room, fault);
+}
+
+static int64_t common(const void *input, uint8_t *out, size_t room, struct syslogbox_fault *fault)
+{
+    const struct octets *o = input;
+    return syslogbox_common(o[0].at, o[0].len, o[1].at, o[1].len, out, room, fault);
+}
+
+static int64_t minus(const void *input, uint8_t *out, size_t room, struct syslogbox_fault *fault)
+{
+    const struct octets *o = input;
+    return syslogbox_minus(o[0].at, o[0].len, o[1].at, o[1].len, out, room, fault);
+}
+
+struct selection {
+    struct syslogbox_condition condition;
+    struct octets archive;
+};
+
+static int64_t selected(const void *input, uint8_t *out, size_t room, struct syslogbox_fault *fault)
+{
+    const struct selection *s = input;
+    return syslogbox_select(&s->condition, s->archive.at, s->archive.len, out, room, fault);
+}
+
+struct digest {
+    int period;
+    struct octets archive;
+};
+
+static int64_t digested(const void *input, uint8_t *out, size_t room, struct syslogbox_fault *fault)
+{
+    const struct digest *d = input;
+    return syslogbox_digest(d->period, d->archive.at, d->archive.len, out, room, fault);
 }
 
 static int within(struct octets record, struct syslogbox_span span)
@@ -359,6 +400,107 @@ static void object(struct octets record)
     release(text);
 }
 
+static int64_t build(const void *input, uint8_t *out, size_t room, struct syslogbox_fault *fault)
+{
+    return syslogbox_build(input, out, room, fault);
+}
+
+static struct syslogbox_text text_at(struct octets record, struct syslogbox_span span)
+{
+    return (struct syslogbox_text){span.len ? record.at + span.offset : NULL, span.len};
+}
+
+/* What the spelling of a value means, in memory of its own. */
+static struct syslogbox_text meaning(struct octets record, struct syslogbox_span span)
+{
+    uint8_t *meant = malloc(span.len + !span.len);
+    int64_t len = syslogbox_value(record.at + span.offset, span.len, meant, span.len, NULL);
+    struct syslogbox_text text = {len ? meant : NULL, (size_t)len};
+
+    EXPECT(len >= 0);
+    if (!len)
+        free(meant);
+    return text;
+}
+
+/* A record is built again of the parts that are shown of it. */
+static void builds(struct octets record, struct octets text)
+{
+    const size_t count = (size_t)syslogbox_spans(record.at, record.len, NULL, 0, NULL);
+    struct syslogbox_part_span *spans = calloc(count, sizeof *spans);
+    struct syslogbox_item *items = calloc(count, sizeof *items);
+    struct syslogbox_parts p;
+    size_t values = 0;
+
+    EXPECT(syslogbox_view(record.at, record.len, &p, NULL) == 1);
+    EXPECT(syslogbox_spans(record.at, record.len, spans, count, NULL) == (int64_t)count);
+    for (size_t i = 7; i + 1 < count; i++) {
+        int is_value = spans[i].part == SYSLOGBOX_PART_PARAM_VALUE;
+        items[i - 7].part = spans[i].part;
+        items[i - 7].text = is_value ? meaning(record, spans[i].span) : text_at(record, spans[i].span);
+        values += is_value;
+    }
+    struct syslogbox_fields fields = {
+        p.time, p.has_time, p.facility, p.severity, p.has_bom, text_at(record, p.hostname), text_at(record, p.app_name),
+        text_at(record, p.proc_id), text_at(record, p.msg_id), count > 8 ? items : NULL, count - 8, text_at(record, p.message)};
+    writes(build, &fields, text);
+    for (size_t i = 7; i + 1 < count; i++)
+        if (spans[i].part == SYSLOGBOX_PART_PARAM_VALUE)
+            free((void *)(uintptr_t)items[i - 7].text.at);
+    free(items);
+    free(spans);
+}
+
+#define TEXT(literal) {(const uint8_t *)literal, sizeof literal - 1}
+
+/* Each field that is refused is named; and what of the structured data is. */
+static void refused_fields(void)
+{
+    static const struct syslogbox_fields good = {.facility = 23, .severity = 7};
+    static const char long_word[] = "xxxxxxxxxxxxxxxxxxxxxxxxxxxxxxxxxxxxxxxxxxxxxxxxx"; /* 49 */
+    static const struct syslogbox_item id = {8, TEXT("a")}, name = {9, TEXT("k")}, none = {10, {NULL, 0}},
+        bad_id = {8, TEXT("a b")}, bad_name = {9, TEXT("k=")}, bad_value = {10, TEXT("\xff")}, part = {7, TEXT("a")};
+    static const struct {
+        struct syslogbox_item items[5];
+        size_t count;
+        struct syslogbox_fault fault;
+    } rows[] = {
+        {{part}, 1, {SYSLOGBOX_BAD_ITEM, SYSLOGBOX_STRUCTURED_DATA, 0}},
+        {{name, none}, 2, {SYSLOGBOX_BAD_ITEM, SYSLOGBOX_STRUCTURED_DATA, 0}},
+        {{bad_id}, 1, {SYSLOGBOX_BAD_ITEM, SYSLOGBOX_STRUCTURED_DATA, 0}},
+        {{id, none}, 2, {SYSLOGBOX_BAD_ITEM, SYSLOGBOX_STRUCTURED_DATA, 1}},
+        {{id, bad_name, none}, 3, {SYSLOGBOX_BAD_ITEM, SYSLOGBOX_STRUCTURED_DATA, 1}},
+        {{id, name}, 2, {SYSLOGBOX_BAD_ITEM, SYSLOGBOX_STRUCTURED_DATA, 2}},
+        {{id, name, name}, 3, {SYSLOGBOX_BAD_ITEM, SYSLOGBOX_STRUCTURED_DATA, 2}},
+        {{id, name, bad_value}, 3, {SYSLOGBOX_BAD_ITEM, SYSLOGBOX_STRUCTURED_DATA, 2}},
+        {{id, name, none, none}, 4, {SYSLOGBOX_BAD_ITEM, SYSLOGBOX_STRUCTURED_DATA, 3}},
+        {{id, name, none, id}, 4, {SYSLOGBOX_REPEATED_ID, SYSLOGBOX_NO_FIELD, 0}},
+    };
+    struct syslogbox_fields f = good;
+
+    f.facility = 24, refuses(build, &f, SYSLOGBOX_BAD_FIELD, SYSLOGBOX_PRIORITY, 0), f = good;
+    f.facility = UINT32_MAX, refuses(build, &f, SYSLOGBOX_BAD_FIELD, SYSLOGBOX_PRIORITY, 0), f = good;
+    f.severity = 8, refuses(build, &f, SYSLOGBOX_BAD_FIELD, SYSLOGBOX_PRIORITY, 0), f = good;
+    f.has_time = 1, f.time = INT64_MAX, refuses(build, &f, SYSLOGBOX_INSTANT_RANGE, 0, 0), f = good;
+    f.has_time = 2, f.time = INT64_MIN, refuses(build, &f, SYSLOGBOX_INSTANT_RANGE, 0, 0), f = good;
+    f.hostname = (struct syslogbox_text)TEXT("a b"), refuses(build, &f, SYSLOGBOX_BAD_FIELD, SYSLOGBOX_HOSTNAME, 1), f = good;
+    f.app_name = (struct syslogbox_text)TEXT("-"), refuses(build, &f, SYSLOGBOX_BAD_FIELD, SYSLOGBOX_APP_NAME, 0), f = good;
+    f.app_name = (struct syslogbox_text){(const uint8_t *)long_word, 49};
+    refuses(build, &f, SYSLOGBOX_BAD_FIELD, SYSLOGBOX_APP_NAME, 48), f = good;
+    f.proc_id = (struct syslogbox_text)TEXT("ab\x7f"), refuses(build, &f, SYSLOGBOX_BAD_FIELD, SYSLOGBOX_PROC_ID, 2), f = good;
+    f.msg_id = (struct syslogbox_text)TEXT(" "), refuses(build, &f, SYSLOGBOX_BAD_FIELD, SYSLOGBOX_MSG_ID, 0), f = good;
+    f.message = (struct syslogbox_text)TEXT("\xef\xbb\xbfx");
+    refuses(build, &f, SYSLOGBOX_BAD_FIELD, SYSLOGBOX_MESSAGE, 0), f = good;
+    f.has_bom = 1, f.message = (struct syslogbox_text)TEXT("ab\xff"), refuses(build, &f, SYSLOGBOX_NOT_UTF8, 0, 2), f = good;
+    for (size_t i = 0; i < sizeof rows / sizeof *rows; i++) {
+        f.items = rows[i].items, f.item_count = rows[i].count;
+        refuses(build, &f, rows[i].fault.kind, rows[i].fault.field, rows[i].fault.offset);
+    }
+    f = good, f.message.at = calloc(1, SYSLOGBOX_ENTRY_MAX), f.message.len = SYSLOGBOX_ENTRY_MAX;
+    refuses(build, &f, SYSLOGBOX_RECORD_TOO_LONG, 0, SYSLOGBOX_ENTRY_MAX);
+    free((void *)(uintptr_t)f.message.at);
+}
+
 static void one_record(struct octets record, const char *answer)
 {
     struct syslogbox_fault fault = {77, 78, 79}, right;
@@ -371,6 +513,7 @@ static void one_record(struct octets record, const char *answer)
         writes(canonical, &record, text);
         object(record);
         parts(record);
+        builds(record, text);
         release(text);
         return;
     }
@@ -414,7 +557,7 @@ static void answers(const char *name, const struct packet *clock)
         ++line_number;
         struct octets octets = of_hex(&text);
         if (clock)
-            one_packet((struct packet){clock->year, clock->offset_minutes, octets}, text + 1);
+            one_packet((struct packet){clock->dialect, clock->year, clock->offset_minutes, octets}, text + 1);
         else
             one_record(octets, text + 1);
         release(octets);
@@ -427,9 +570,44 @@ static void no_clocks(void)
 {
     static const int wrong[][2] = {{0, 0}, {9999, 0}, {-2003, 0}, {2003, 1440}, {2003, -1440}, {2003 + 65536, 0}, {2003, 65536}};
     for (size_t i = 0; i < sizeof wrong / sizeof *wrong; i++) {
-        struct packet packet = {wrong[i][0], wrong[i][1], {.at = (uint8_t *)"x", .len = 1}};
-        refuses(legacy, &packet, SYSLOGBOX_BAD_CLOCK, 0, 0);
+        for (int dialect = SYSLOGBOX_BSD; dialect <= SYSLOGBOX_WIDE; dialect++) {
+            struct packet packet = {dialect, wrong[i][0], wrong[i][1], {.at = (uint8_t *)"x", .len = 1}};
+            refuses(legacy, &packet, SYSLOGBOX_BAD_CLOCK, 0, 0);
+        }
     }
+}
+
+static void no_dialects(void)
+{
+    static const int wrong[] = {0, 3, -1, 257, 65537};
+    for (size_t i = 0; i < sizeof wrong / sizeof *wrong; i++) {
+        struct packet packet = {wrong[i], 0, 0, {.at = (uint8_t *)"x", .len = 1}};
+        refuses(legacy, &packet, SYSLOGBOX_BAD_DIALECT, 0, 0);
+    }
+}
+
+/* What is left of each frame of a file, which begins with it. */
+static void trimmed(const char *name)
+{
+    FILE *file = fopen(name, "r");
+    char *line = NULL;
+    size_t room = 0;
+
+    if (!file)
+        abort();
+    while (getline(&line, &room, file) > 0) {
+        const char *text = line;
+        ++line_number;
+        struct octets frame = of_hex(&text);
+        ++text;
+        struct octets left = of_hex(&text);
+        EXPECT(syslogbox_trimmed(frame.at, frame.len) == left.len && left.len <= frame.len);
+        EXPECT(!memcmp(frame.at, left.at, left.len));
+        release(frame);
+        release(left);
+    }
+    free(line);
+    fclose(file);
 }
 
 static const char *const fields[] = {"", "priority", "version", "timestamp", "hostname", "app-name", "procid", "msgid",
@@ -492,24 +670,97 @@ static void frames(int framing, struct octets stream)
     }
 }
 
-static void unite(const char *left, const char *right)
+/* Writes what a call gives into so much room, or prints its fault. */
+static void gives(writing *call, const void *input, size_t room)
 {
-    struct octets both[2] = {of_file(left), of_file(right)};
-    struct octets out = of_length(both[0].len + both[1].len);
+    struct octets out = of_length(room);
     struct syslogbox_fault fault;
-    int64_t len = syslogbox_union(both[0].at, both[0].len, both[1].at, both[1].len, out.at, out.len, &fault);
+    int64_t len = call(input, out.at, out.len, &fault);
 
     if (len < 0) {
         printf("%u %u %llu\n", fault.kind, fault.field, (unsigned long long)fault.offset);
-        refuses(joined, both, fault.kind, fault.field, fault.offset);
+        refuses(call, input, fault.kind, fault.field, fault.offset);
     } else {
         struct octets text = {.at = out.at, .len = (size_t)len};
-        writes(joined, both, text);
+        writes(call, input, text);
         fwrite(out.at, 1, text.len, stdout);
     }
     release(out);
-    release(both[0]);
-    release(both[1]);
+}
+
+static void both(writing *call, const char *left, const char *right)
+{
+    struct octets archives[2] = {of_file(left), of_file(right)};
+
+    gives(call, archives, archives[0].len + (call == joined ? archives[1].len : 0));
+    release(archives[0]);
+    release(archives[1]);
+}
+
+/* Conditions as words, of which "-" is none. */
+static void select_words(char **words)
+{
+    struct selection selection = {.archive = of_file(words[6])};
+    struct syslogbox_condition *c = &selection.condition;
+
+    c->has_from = strcmp(words[0], "-") != 0, c->from = c->has_from ? atoll(words[0]) : 77;
+    c->has_to = strcmp(words[1], "-") != 0, c->to = c->has_to ? atoll(words[1]) : 78;
+    c->undated = strcmp(words[2], "-") != 0;
+    c->has_severity = strcmp(words[3], "-") != 0, c->severity = c->has_severity ? (uint32_t)atoi(words[3]) : 79;
+    if (strcmp(words[4], "-"))
+        c->hostname = (struct syslogbox_text){(const uint8_t *)words[4], strlen(words[4])};
+    if (strcmp(words[5], "-"))
+        c->app_name = (struct syslogbox_text){(const uint8_t *)words[5], strlen(words[5])};
+    gives(selected, &selection, selection.archive.len);
+    release(selection.archive);
+}
+
+/*
+ * The frames of a stream that comes in random pieces, by a scanner and room for the longest frame and its count: each as it is,
+ * or that it was too long; and how the stream ends. It begins anew in memory of just so many octets for each piece.
+ */
+static void scans(int framing, size_t longest, unsigned seed, struct octets stream)
+{
+    struct syslogbox_scanner scanner = {0, 0}, before = {7, 8};
+    struct syslogbox_found found = {77, 78, 79};
+    size_t at = 0, known = 0; /* what is done with, and what has come */
+    unsigned long n = 0;
+
+    EXPECT(syslogbox_scan(3, longest, stream.at, stream.len, &before, &found) == -2);
+    EXPECT(before.inside == 7 && before.left == 8 && found.used == 77 && found.start == 78 && found.end == 79);
+    srand(seed);
+    for (;;) {
+        struct octets piece = of_length(known - at);
+        memcpy(piece.at, stream.at + at, piece.len);
+        int answer = syslogbox_scan(framing, longest, piece.at, piece.len, &scanner, &found);
+        EXPECT(found.used <= piece.len);
+        if (answer == SYSLOGBOX_SCAN_FRAME) {
+            EXPECT(found.start <= found.end && found.end <= found.used && found.end - found.start <= longest);
+            struct octets frame = of_length(found.end - found.start);
+            memcpy(frame.at, piece.at + found.start, frame.len);
+            print_check(++n, frame.at, frame.len);
+            release(frame);
+        } else if (answer == SYSLOGBOX_SCAN_TOO_LONG) {
+            printf("%lu too-long\n", ++n);
+        } else if (answer == SYSLOGBOX_SCAN_BROKEN) {
+            EXPECT(!found.used && found.start == found.end);
+            printf("%lu bad-count %zu\n", n + 1, at + found.start);
+            release(piece);
+            return;
+        }
+        release(piece);
+        at += found.used;
+        if (answer == SYSLOGBOX_SCAN_WAITS) {
+            EXPECT(!found.used || found.used == known - at + found.used);
+            EXPECT(known - at <= longest + 12);
+            if (known == stream.len)
+                break;
+            size_t more = 1 + (size_t)rand() % (rand() % 3 ? 9 : 70000);
+            known = more < stream.len - known ? known + more : stream.len;
+        }
+    }
+    if (at < stream.len || scanner.inside)
+        printf("unterminated\n");
 }
 
 /* The root of the archive of a file, as `syslogbox root` prints it, or its fault; what is refused leaves the room. */
@@ -540,8 +791,12 @@ static void nulls(void)
     struct syslogbox_fault fault;
     size_t start = 77, end = 78;
     static const char nil[] = "<13>1 - - - - - -";
-    struct packet packet = {2003, 0, {.at = NULL}};
+    struct packet packet = {SYSLOGBOX_BSD, 2003, 0, {.at = NULL}}, wide = {SYSLOGBOX_WIDE, 2003, 0, {.at = NULL}};
     struct syslogbox_root none_of;
+    const struct syslogbox_fields no_fields = {.facility = 1, .severity = 5};
+    const struct selection none_selected = {{.has_from = 0}, {.at = NULL}};
+    struct syslogbox_scanner scanner = {0, 0};
+    struct syslogbox_found found;
 
     EXPECT(syslogbox_check(NULL, 0, &fault) == 0 && is_fault(fault, SYSLOGBOX_SYNTAX, SYSLOGBOX_PRIORITY, 0));
     EXPECT(syslogbox_check(NULL, 0, NULL) == 0);
@@ -556,6 +811,16 @@ static void nulls(void)
     EXPECT(syslogbox_root(NULL, 0, &none_of, NULL) == 1 && !none_of.count && none_of.hash[0] == 0xe3);
     writes(joined, none, nothing);
     writes(legacy, &packet, (struct octets){.at = (uint8_t *)nil, .len = sizeof nil - 1});
+    writes(legacy, &wide, (struct octets){.at = (uint8_t *)nil, .len = sizeof nil - 1});
+    EXPECT(syslogbox_trimmed(NULL, 0) == 0);
+    writes(common, none, nothing);
+    writes(minus, none, nothing);
+    writes(selected, &none_selected, nothing);
+    EXPECT(syslogbox_digest(SYSLOGBOX_DAY, NULL, 0, NULL, 0, &fault) == -1 && fault.kind == SYSLOGBOX_NO_ROOM);
+    EXPECT(syslogbox_scan(SYSLOGBOX_LF, 0, NULL, 0, &scanner, &found) == SYSLOGBOX_SCAN_WAITS && !found.used);
+    EXPECT(syslogbox_scan(SYSLOGBOX_COUNTED, 0, NULL, 0, &scanner, &found) == SYSLOGBOX_SCAN_WAITS && !found.used);
+    writes(build, &no_fields, (struct octets){.at = (uint8_t *)nil, .len = sizeof nil - 1});
+    refused_fields();
 }
 
 static const struct told {
@@ -580,7 +845,11 @@ static const struct told {
     {{SYSLOGBOX_NO_PARAM, 0, 0}, "there are 0 parameters"},
     {{SYSLOGBOX_RECORD_TOO_LONG, 0, SYSLOGBOX_ENTRY_MAX}, "the record has more than 524295 octets"},
     {{SYSLOGBOX_NO_FAULT, 0, 0}, "a fault of kind 0"},
-    {{16, 3, 4}, "a fault of kind 16"},
+    {{SYSLOGBOX_BAD_DIALECT, 0, 0}, "there is no such dialect"},
+    {{SYSLOGBOX_BAD_FIELD, SYSLOGBOX_HOSTNAME, 1}, "the hostname may not be so, from octet 1 on"},
+    {{SYSLOGBOX_BAD_ITEM, SYSLOGBOX_STRUCTURED_DATA, 3}, "item 3 of the structured data is refused"},
+    {{SYSLOGBOX_BAD_PERIOD, 0, 0}, "there is no such period"},
+    {{99, 3, 4}, "a fault of kind 99"},
     {{SYSLOGBOX_SYNTAX, SYSLOGBOX_MSG_ID, UINT64_MAX}, "a syntax error in the msg id at octet 18446744073709551615"},
     {{SYSLOGBOX_NOT_ASCENDING, 0, 19}, "the archive does not ascend at octet 19"},
 };
@@ -621,7 +890,16 @@ static void memory(void)
     static const char entry[] = "16 <0>1 - - - - - -";
     struct octets record = {.at = (uint8_t *)text, .len = sizeof text - 1}, raw = {.at = (uint8_t *)"\\\"v", .len = 3};
     struct octets both[2] = {{.at = (uint8_t *)entry, .len = sizeof entry - 1}, {.at = (uint8_t *)entry, .len = sizeof entry - 1}};
-    struct packet packet = {2003, 0, {.at = (uint8_t *)"<13>Oct 11 22:14:15 h a[1]: x", .len = 29}};
+    struct packet packet = {SYSLOGBOX_BSD, 2003, 0, {.at = (uint8_t *)"<13>Oct 11 22:14:15 h a[1]: x", .len = 29}};
+    struct packet wide = packet;
+    const struct selection selection = {{.has_severity = 1, .severity = 7}, both[0]};
+    const struct digest digest = {SYSLOGBOX_HOUR, both[0]};
+    struct syslogbox_scanner scanner = {0, 0};
+    struct syslogbox_found found;
+    static const struct syslogbox_item items[] = {{8, TEXT("b")}, {9, TEXT("l")}, {10, {NULL, 0}}, {8, TEXT("a")}};
+    const struct syslogbox_fields fields = {
+        .has_time = 1, .hostname = TEXT("h"), .app_name = TEXT("a"), .proc_id = TEXT("1"), .msg_id = TEXT("m"), .items = items,
+        .item_count = 4, .message = TEXT("x")};
     struct syslogbox_parts p;
     struct syslogbox_element e;
     struct syslogbox_param q;
@@ -642,6 +920,14 @@ static void memory(void)
     if (!syslogbox_root(both->at, both->len, &head, &fault))
         EXPECT(is_fault(fault, SYSLOGBOX_NO_MEMORY, 0, 0) && write(1, "root\n", 5) == 5);
     takes_memory("legacy\n", legacy, &packet);
+    wide.dialect = SYSLOGBOX_WIDE;
+    takes_memory("packet\n", legacy, &wide);
+    takes_memory("build\n", build, &fields);
+    takes_memory("common\n", common, both);
+    takes_memory("minus\n", minus, both);
+    takes_memory("select\n", selected, &selection);
+    takes_memory("digest\n", digested, &digest);
+    EXPECT(syslogbox_scan(SYSLOGBOX_COUNTED, 16, both->at, both->len, &scanner, &found) == SYSLOGBOX_SCAN_FRAME);
 }
 
 /* A call that reads a record, by its name. */
@@ -771,17 +1057,35 @@ int main(int argc, char **argv)
 
     if (!strcmp(mode, "records") && argc == 3) {
         answers(argv[2], NULL);
-    } else if (!strcmp(mode, "legacy") && argc == 5) {
-        struct packet clock = {atoi(argv[2]), atoi(argv[3]), {.at = NULL}};
+    } else if ((!strcmp(mode, "legacy") || !strcmp(mode, "wide")) && argc == 5) {
+        const int dialect = strcmp(mode, "wide") ? SYSLOGBOX_BSD : SYSLOGBOX_WIDE;
+        struct packet clock = {dialect, atoi(argv[2]), atoi(argv[3]), {.at = NULL}};
         answers(argv[4], &clock);
         no_clocks();
+        no_dialects();
+    } else if (!strcmp(mode, "trimmed") && argc == 3) {
+        trimmed(argv[2]);
     } else if (!strcmp(mode, "frames") && argc == 4) {
         struct octets stream = of_file(argv[3]);
         frames(atoi(argv[2]), stream);
         passes(atoi(argv[2]), stream);
         release(stream);
+    } else if (!strcmp(mode, "scan") && argc == 6) {
+        struct octets stream = of_file(argv[5]);
+        scans(atoi(argv[2]), (size_t)atol(argv[3]), (unsigned)atoi(argv[4]), stream);
+        release(stream);
     } else if (!strcmp(mode, "union") && argc == 4) {
-        unite(argv[2], argv[3]);
+        both(joined, argv[2], argv[3]);
+    } else if (!strcmp(mode, "common") && argc == 4) {
+        both(common, argv[2], argv[3]);
+    } else if (!strcmp(mode, "minus") && argc == 4) {
+        both(minus, argv[2], argv[3]);
+    } else if (!strcmp(mode, "select") && argc == 9) {
+        select_words(argv + 2);
+    } else if (!strcmp(mode, "digest") && argc == 4) {
+        struct digest digest = {atoi(argv[2]), of_file(argv[3])};
+        gives(digested, &digest, digest.archive.len + 4096);
+        release(digest.archive);
     } else if (!strcmp(mode, "root") && argc == 3) {
         root(argv[2]);
     } else if (!strcmp(mode, "nulls")) {

@@ -10,6 +10,7 @@ import re
 import shutil
 import sys
 import time
+from datetime import datetime, timezone
 from random import Random
 
 from bindings import python_arguments, python_package
@@ -18,6 +19,7 @@ from bindings.go_module import go_module
 from bindings.lines import lines
 from cases.colliding_ids import FRONT, STACK, colliding, data, fitting, ids, most
 from cases.legacy import changed, forms, zone
+from cases.legacy import rows as wide_rows
 from cases.mutated import mutations
 from cases.rows import MERGED, RECORDS, REFUSED
 from lib import reference
@@ -82,11 +84,20 @@ def in_c(program, results, folder, frames, answers):
         told = of_program(program, some, "--legacy", str(year), "--zone", zone(minutes))
         packed = written(folder, "packets", some, told)
         results.same(f"C: packets of {year}", run(calls, ["legacy", str(year), str(minutes), packed]), (0, b"", b""))
+        some += [packet for packet, *_ in wide_rows()]
+        told = of_program(program, some, "--legacy", str(year), "--zone", zone(minutes), "--dialect", "wide")
+        packed = written(folder, "packets", some, told)
+        results.same(f"C: packets of {year}, wide", run(calls, ["wide", str(year), str(minutes), packed]), (0, b"", b""))
     packet = b"x" * reference.ENTRY_MAX
     packed = written(folder, "packets", [packet, packet + b"x"], [b"<13>1 - - - - - - " + packet, TOO_LONG])
     results.same("C: packets that are long", run(calls, ["legacy", "2024", "0", packed]), (0, b"", b""))
+    results.same("C: wide packets that are long", run(calls, ["wide", "2024", "0", packed]), (0, b"", b""))
+    trims(program, results, folder, calls)
     streams(program, results, folder, calls, frames)
+    scans(program, results, folder, calls, frames)
+    scanning_program(results, folder)
     unions(program, results, folder, calls)
+    sets(program, results, folder, calls)
     roots(program, results, folder, calls)
     calls, built, said = compiled(folder, "unsanitized", [ROOT / "tests/bindings/calls.c"], "-O1")
     results.check("C: the calls are compiled without sanitizers", built, said)
@@ -95,12 +106,23 @@ def in_c(program, results, folder, frames, answers):
         hardest(results, folder, calls)
 
 
+def trims(program, results, folder, calls):
+    """What is left of frames with line ends and NULs, beside what the program reads of them with --trim."""
+    rows = [(front + end, front + end[:-dropped] if dropped else front + end) for front in (b"", b"a", b"\x00", b"\n", b"\r", b"\r\n")
+            for end, dropped in [(b"\r\n", 2), (b"x\n", 1), (b"\n\n", 1), (b"x\r", 1), (b"x\x00", 1), (b"\n\r", 1), (b"x", 0)]]
+    lines = "".join(f"{frame.hex()} {left.hex()}\n" for frame, left in rows)
+    results.same("C: trimmed frames", run(calls, ["trimmed", folder.file("trimmed", lines.encode())]), (0, b"", b""))
+    left = of_program(program, [b"<0>1 - - - - - - " + left for _, left in rows])
+    seen = of_program(program, [b"<0>1 - - - - - - " + frame for frame, _ in rows], "--trim")
+    results.check("C: the program trims so", seen == left, f"{seen} for {left}")
+
+
 def interface(results):
     """The shared library has the calls of the header alone, each with the version that brought it, as they were described."""
     declared = set(re.findall(r"^[a-z]\w* (syslogbox_\w+)\(", (ROOT / "include/syslogbox.h").read_text(), re.M))
     exported = run("nm", ["-D", "--defined-only", ROOT / "build/libsyslogbox.so.0"])[1].decode().split()[2::3]
     calls = dict(name.split("@@") for name in exported if not name.startswith("SYSLOGBOX_"))
-    results.check("the shared library has the header's calls alone", set(calls) == declared and len(calls) == 15, str(exported))
+    results.check("the shared library has the header's calls alone", set(calls) == declared and len(calls) == 23, str(exported))
     version = run("sh", ["scripts/version.sh"], cwd=ROOT)[1].decode().strip()
     numbers = [int(number) for number in version.split(".")]
     right = [name for name, of in calls.items() if [int(number) for number in of.removeprefix("SYSLOGBOX_").split(".")] > numbers[:2]]
@@ -165,7 +187,8 @@ def without_memory(program, results, calls):
         refused.append(name)
         results.check(f"C: allocation {len(refused)}", status == 0 and name.count(b"\n") == 1, f"{status} {name} {notes}")
         built = status == 0
-    results.check("C: memory is refused", sorted(set(refused)) == [b"canonical\n", b"json\n", b"legacy\n", b"root\n", b"union\n", b"value\n"], str(refused))
+    results.check("C: memory is refused", sorted(set(refused)) == [b"build\n", b"canonical\n", b"common\n", b"digest\n", b"json\n", b"legacy\n", b"minus\n", b"packet\n", b"root\n",
+        b"select\n", b"union\n", b"value\n"], str(refused))
 
 
 def streams(program, results, folder, calls, frames):
@@ -190,18 +213,77 @@ def archives(program):
     yield from ((left, right) for _, left, right, *_ in MERGED)
 
 
+def scans(program, results, folder, calls, frames):
+    """Streams that come in random pieces, with frames that are too long: what `check` prints of each frame, and how they end."""
+    some = frames[:300] + [b"x" * 300_000] + frames[-100:] + [b"y" * 262_145, b"z" * 262_144]
+    counted, lines = (b"".join(reference.framed(framing, frame) for frame in some if frame) for framing in ("counted", "lf"))
+    for number, framing, stream in [(1, "counted", counted), (2, "lf", lines), (1, "counted", counted[:-3]), (2, "lf", lines + b"x"),
+                                    (1, "counted", counted + b"300000 " + b"x" * 299_999), (2, "lf", lines + b"x" * 262_145),
+                                    (1, "counted", counted + b"12x"), (1, "counted", b""), (2, "lf", b"")]:
+        right = program.run(["check", "--framing", framing], stream)[1]
+        right = b"".join(b"unterminated\n" if line.startswith(b"unterminated") else line for line in right.splitlines(True))
+        name = folder.file("stream", stream)
+        for seed in (1, 2):
+            seen = run(calls, ["scan", str(number), str(reference.FRAME_MAX), str(seed), name])
+            results.same(f"C: a stream of {len(stream)} octets in pieces, {framing}", seen, (0, right, b""))
+    short = b"".join(reference.framed("counted", frame) for frame in frames[:3_000] if frame)
+    kept = [line if len(frame) <= 40 else b"%d too-long\n" % n for n, (line, frame) in enumerate(
+        zip(program.run(["check", "--framing", "counted"], short)[1].splitlines(True), [frame for frame in frames[:3_000] if frame]), 1)]
+    seen = run(calls, ["scan", "1", "40", "3", folder.file("stream", short)])
+    results.same("C: a stream with frames of at most 40 octets", seen, (0, b"".join(kept), b""))
+
+
+def scanning_program(results, folder):
+    """The program of docs/LIBRARY.md that reads a stream with a scanner, on frames around its limit, and on streams that break off."""
+    text = (ROOT / "docs/LIBRARY.md").read_text().split("\n## C\n")[1].split("\n## ")[0]
+    _, source = re.findall(r"^```c\n(.*?)^```$", text, re.MULTILINE | re.DOTALL)
+    path, built, said = compiled(folder, "scanning", [folder.file("scanning.c", source.encode())], "-std=c99", "-pedantic", *SANITIZED)
+    results.check("docs/LIBRARY.md: the program with a scanner is compiled", built, said)
+    sizes = [1, 9, 8_191, 8_192, 8_193, 3, 300_000, 5] * 40
+    stream = b"".join(b"%d %b" % (size, b"x" * size) for size in sizes)
+    right = b"".join(b"x" * size + b"\n" if size <= 8_192 else b"a frame was too long\n" for size in sizes)
+    for octets, output, status in [(stream, right, 0), (stream + b"3 ab", right, 1), (stream + b"9000 ab", right, 1), (stream + b"?", right, 1)]:
+        results.same(f"docs/LIBRARY.md: the program with a scanner, {octets[-8:]!r}", run(path, [], octets), (status, output, b""))
+
+
+def sets(program, results, folder, calls):
+    """Selections and digests of archives beside the program's, and the faults of what is none."""
+    conditions = [(["-"] * 6, []), (["1700000000000000", "-", "-", "-", "-", "-"], ["--from", "2023-11-14T22:13:20Z"]),
+                  (["-", "1700000000000000", "u", "-", "-", "-"], ["--to", "2023-11-14T22:13:20Z", "--undated"]),
+                  (["-", "1065910455003000", "-", "3", "-", "-"], ["--to", "2003-10-11T22:14:15.003Z", "--severity", "err"]),
+                  (["-", "-", "-", "0", "-", "-"], ["--severity", "emerg"]), (["-", "-", "-", "-", "h", "-"], ["--host", "h"]),
+                  (["-", "-", "-", "-", "mymachine.example.com", "su"], ["--host", "mymachine.example.com", "--app", "su"])]
+    for archive in (one for pair in archives(program) for one in pair):
+        name = folder.file("archive", archive)
+        fault = program.run(["merge", name, folder.file("none", b"")])
+        told = b"" if fault[0] == 0 else "{} 0 {}\n".format(*numbers(fault[2])[::2]).encode()
+        for words, options in conditions:
+            right = told or program.run(["select", *options], archive)[1]
+            results.same(f"C: what {options} selects of {archive[:40]!r}", run(calls, ["select", *words, name]), (0, right, b""))
+        for number, period in enumerate(["month", "day", "hour"], 1):
+            right = told or program.run(["digest", "--by", period], archive)[1]
+            results.same(f"C: the digest by {period} of {archive[:40]!r}", run(calls, ["digest", str(number), name]), (0, right, b""))
+    one = folder.file("archive", b"16 <0>1 - - - - - -")
+    for words, right in [(["select", str(2 ** 62), *["-"] * 5], b"2 0 0\n"), (["select", "-", str(-2 ** 62), *["-"] * 4], b"2 0 0\n"),
+                         (["select", "-", "-", "-", "8", "-", "-"], b"17 1 0\n"), (["digest", "0"], b"19 0 0\n"), (["digest", "4"], b"19 0 0\n")]:
+        results.same(f"C: {words} is refused", run(calls, [*words, one]), (0, right, b""))
+
+
 def unions(program, results, folder, calls):
+    """Unions, what archives have in common, and what one has alone, beside the program's."""
     for left, right in archives(program):
         names = folder.file("left", left), folder.file("right", right)
-        status, output, notes = program.run(["merge", *names])
-        seen = run(calls, ["union", *names])
-        if status == 0:
-            results.same(f"C: a union of {len(left)} and {len(right)} octets", seen, (0, output, b""))
-            continue
-        # the library reads the left archive to its end before the right one
-        alone = program.run(["merge", names[0], folder.file("none", b"")])[2] or notes
-        told = "{} {} {}\n".format(*numbers(alone)).encode()
-        results.same(f"C: no union of {left[:40]!r} and {right[:40]!r}", seen, (0, told, b""))
+        for call, command in [("union", "merge"), ("common", "common"), ("minus", "minus")]:
+            status, output, _ = program.run([command, *names])
+            seen = run(calls, [call, *names])
+            if status == 0:
+                results.same(f"C: {call} of {len(left)} and {len(right)} octets", seen, (0, output, b""))
+                continue
+            # the library tells the fault of the left archive, even if the right one has one before it
+            notes = program.run(["merge", *names])[2]
+            alone = program.run(["merge", names[0], folder.file("none", b"")])[2] or notes
+            told = "{} {} {}\n".format(*numbers(alone)).encode()
+            results.same(f"C: no {call} of {left[:40]!r} and {right[:40]!r}", seen, (0, told, b""))
 
 
 def roots(program, results, folder, calls):
@@ -247,10 +329,15 @@ def in_python(program, results, folder, frames, answers):
     some = [frame for frame, answer in zip(frames, answers) if isinstance(answer, bytes)]
     shown = next((f"{frame!r}" for frame in some[:20_000] if not same_parts(module.view(frame), reference.read(frame))), "")
     results.check("Python: parts", not shown, shown)
+    rebuilt = next((f"{frame!r}" for frame in some[:20_000] if module.build(module.view(frame)) != module.canonical(frame)), "")
+    results.check("Python: records are built of their parts", not rebuilt, rebuilt)
     many_params(results, module)
     shown_as_json(program, results, module, some[:10_000])
     for year, minutes, packet, form in forms():
         results.check(f"Python: a legacy packet {packet!r}", module.legacy(packet, year, minutes) == form)
+    for packet, _, form in wide_rows():
+        seen = module.legacy(packet, 2024, 60, dialect=module.Dialect.WIDE)
+        results.check(f"Python: a wide packet {packet!r}", seen == form, str(seen))
     for call, kind in [(lambda: module.legacy(b"x", 10_000), "BAD_CLOCK"), (lambda: module.legacy(b"x", 2 ** 40), "BAD_CLOCK"),
                        (lambda: module.legacy(b"\xef\xbb\xbf\xff", 2024), "NOT_UTF8"), (lambda: module.union(b"", b"x"), "BAD_FRAME"),
                        (lambda: module.legacy(b"<0>1 ", 2024), "SYNTAX"), (lambda: module.canonical(b""), "SYNTAX"),
@@ -261,6 +348,16 @@ def in_python(program, results, folder, frames, answers):
         status, output, _ = program.run(["merge", folder.file("left", left), folder.file("right", right)])
         if status == 0:
             results.check(f"Python: a union of {len(left)} and {len(right)} octets", module.union(left, right) == output)
+            names = folder.file("left", left), folder.file("right", right)
+            for call in (module.common, module.minus):
+                right_one = program.run([call.__name__, *names])[1]
+                results.check(f"Python: {call.__name__} of {len(left)} and {len(right)} octets", call(left, right) == right_one)
+            for period in module.Period:
+                told = program.run(["digest", "--by", period.name.lower()], left)[1].decode()
+                results.check(f"Python: the digest by {period.name} of {len(left)} octets", module.digest(left, period) == told)
+            selected = program.run(["select", "--from", "2003-01-01", "--severity", "err"], left)[1]
+            start = datetime(2003, 1, 1, tzinfo=timezone.utc)
+            results.check(f"Python: what is selected of {len(left)} octets", module.select(left, start=start, severity=3) == selected)
             root = program.run(["root"], output)[1].decode()
             results.check(f"Python: the root of {len(output)} octets", f"{module.root(output)}\n" == root, root)
     python_package.package(results, folder, module, frames, answers)

@@ -156,6 +156,28 @@ def many_ids(program, results):
             results.check(f"the time of 52,000 ids {order}, {line}", took < 0.15, f"{took:.3f} s a record")
 
 
+def any_length(program, results):
+    """With --endless, frames that stand behind 4 GiB are read too. The file has a hole, and takes no room on disk."""
+    path, most = program.folder.path / "long", 1_048_576 * 4_096
+    with open(path, "wb") as file:
+        file.truncate(most)
+        file.seek(most)
+        file.write(b"\n" + EXAMPLE + b"\n")
+    canonical = program.run(["convert"], EXAMPLE)[1]
+    shown = program.run(["show"], EXAMPLE)[1].replace(b"record 1", b"record 2", 1)
+    for command, output, notes in [("check", b"1 too-long\n2 ok\n", b""), ("convert", canonical + b"\n", b"1 too-long\n"), ("show", shown, b"1 too-long\n")]:
+        words = [command, "--framing", "lf"]
+        with open(path, "rb") as octets:
+            results.same(f"{command} of more than 4 GiB", program.run(words, stdin=octets), (2, b"", b"endless input\n"))
+        with open(path, "rb") as octets:
+            results.same(f"{command} --endless of more than 4 GiB", program.run([*words, "--endless"], stdin=octets), (1, output, notes))
+        each_allocation(program, results, f"{command} --endless", [*words, "--endless"], EXAMPLE + b"\n")
+    path.unlink()
+    stream = (EXAMPLE + b"\n") * 20_000
+    made = program.counts(["check", "--framing", "lf", "--endless"], stream, fd=0).read
+    results.check("--endless reads large pieces", made < len(stream) // 4_096, f"{made} of {len(stream)} octets")
+
+
 def live(program, results):
     """A line that goes in is answered while the input stays open."""
     process = subprocess.Popen([program.path, "check", "--framing", "lf"], stdin=subprocess.PIPE, stdout=subprocess.PIPE)
@@ -198,5 +220,6 @@ def commands(program, results):
     calls(program, results)
     pieces(program, results)
     many_ids(program, results)
+    any_length(program, results)
     live(program, results)
     ago(program, results)

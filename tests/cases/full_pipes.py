@@ -314,11 +314,42 @@ def damaged(runs):
         runs.results.check(f"a file that is damaged at {place}: a new one", kept == [b"later"], str(kept))
 
 
+def one_bit(runs):
+    """A bit of a count that is flipped cuts nothing off: all entries behind it stay, under the other name."""
+    store = with_refused(runs)
+    path = store / "refused"
+    entries = [framed("counted", b"%d " % n + b"x" * 50) for n in range(2_000)]
+    octets = b"".join(entries)
+    for place in 0, len(entries[0]), len(entries[0]) + 1, len(entries[0]) + 2:
+        for bit in range(8):
+            flipped = bytearray(octets)
+            flipped[place] ^= 1 << bit
+            path.write_bytes(flipped)
+            with runs.until_eof(*any_port("lf"), *SOON, store=store) as server:
+                status, lines = server.end()
+            kept = path.read_bytes() + (store / "refused.1").read_bytes() if (store / "refused.1").exists() else path.read_bytes()
+            right = status == 0 and kept.count(b"x" * 50) == len(entries)
+            runs.results.check(f"bit {bit} at {place} of refused: every entry stays", right, f"{status} {lines} {len(kept)}")
+            (store / "refused.1").unlink(missing_ok=True)
+
+
+def blank_end(runs):
+    """Zeros that a power cut leaves in place of what was written are cut off."""
+    store = with_refused(runs)
+    path = store / "refused"
+    whole = path.read_bytes()
+    path.write_bytes(whole + bytes(4_096))
+    with runs.until_eof(*any_port("lf"), *SOON, store=store) as server:
+        status, lines = server.end()
+    right = status == 0 and b"refused: 4096 octets behind the last whole entry cut off" in lines
+    runs.results.check("zeros behind the last whole entry", right and path.read_bytes() == whole, f"{status} {lines}")
+
+
 def never_turned(runs):
     """Where a folder has the other name, the file has at most 128 MiB; what comes then is counted and told."""
     store = with_refused(runs)
     path = store / "refused"
-    path.write_bytes(framed("counted", b"0" * (127 << 20)))
+    path.write_bytes(framed("counted", b"0" * 262_144) * 508)  # 127 MiB
     (store / "refused.1").mkdir()
     with runs.until_eof(*any_port("lf"), *SOON, store=store) as server:
         for _ in range(30):
@@ -334,8 +365,8 @@ def never_turned(runs):
 def turned(runs):
     """A turn-over whose new file cannot be made loses nothing, and the old file goes on, until it can be made."""
     store = with_refused(runs)
-    path, frame = store / "refused", b"0" * (64 << 20)
-    path.write_bytes(framed("counted", frame))
+    path, count = store / "refused", 256  # 64 MiB
+    path.write_bytes(framed("counted", b"0" * 262_144) * count)
     (store / "refused.new").mkdir()
     with runs.until_eof(*any_port("lf"), *SOON, store=store) as server:
         begun = path.stat().st_size
@@ -345,7 +376,7 @@ def turned(runs):
         server.send("lf", b"second\n")
         server.end()
     kept = [words for _, words in refused_file(store)]
-    older = counted_frames((store / "refused.1").read_bytes())[0][1:]
+    older = counted_frames((store / "refused.1").read_bytes())[0][count:]
     runs.results.check("the old file goes on", [one.split(b"\n", 1)[1] for one in older] == [b"first"], str(older))
     runs.results.check("the new file begins", kept == [b"second"], str(kept))
     runs.results.check("nothing else is left", not (store / "refused.new").exists())
@@ -415,7 +446,7 @@ def shown(runs):
             runs.results.check(f"serve of {name!r}, whose lock is a folder", (server.status(), server.told()) == (2, right), str(server.told()))
 
 
-TESTS = [unread, read_late, no_reader, in_order, to_a_file, stopped_terminal, silent_terminal, torn, others, damaged, turned, never_turned, full_disk, shown]
+TESTS = [unread, read_late, no_reader, in_order, to_a_file, stopped_terminal, silent_terminal, torn, others, damaged, one_bit, blank_end, turned, never_turned, full_disk, shown]
 
 
 def full_pipes(program, results):

@@ -278,10 +278,10 @@ def cut_over(runs):
     store = runs.store()
     store.mkdir(mode=0o700)
     (store / "refused.1").write_bytes(b"old")
-    head = b"%d " % (REFUSED_MAX - 10)  # of an entry that ends an octet before
-    with open(store / "refused", "wb") as one:
-        one.write(head)
-        one.truncate(REFUSED_MAX - 1)
+    sizes = [262_144] * 255
+    sizes.append(REFUSED_MAX - 1 - sum(size + 7 for size in sizes) - 7)  # so the last one ends an octet before
+    before = b"".join(b"%d " % size + bytes(size) for size in sizes)
+    (store / "refused").write_bytes(before)
     with runs.until_eof(*any_port("lf"), *SOON, store=store) as server:
         name = spelled(server.send("lf", b"first\n", b"second\n", b"third\n"))
         lines = [b"lf %b %d syntax priority 0" % (name, n) for n in (1, 2, 3)]
@@ -290,7 +290,7 @@ def cut_over(runs):
     right = list(zip(lines[1:], (b"second", b"third")))
     runs.results.check("a new file of refused frames", kept == right, str(kept)[:300])
     older = (store / "refused.1").read_bytes()
-    right = older == head + bytes(REFUSED_MAX - 10) + framed("counted", lines[0] + b"\nfirst")
+    right = older == before + framed("counted", lines[0] + b"\nfirst")
     runs.results.check("the older one", right, f"{len(older)} {older[-99:]}")
 
 

@@ -548,6 +548,25 @@ def removed(runs):
         ends_moved(runs, "a link that leads to itself", server, server.store, LOOPED)
 
 
+def usurped(runs):
+    """A server whose lock was removed writes nothing once another server has the folder, whose commits all stay."""
+    for ending in b"", b" and more":
+        store = runs.store()
+        with runs.server(*any_port("lf"), *SOON, store=store) as one:
+            one.send("lf", A + b"\n")
+            runs.holds("before the lock is removed", one, A)
+            (store / "lock").unlink()
+            with runs.server(*any_port("lf"), *SOON, store=store) as other:
+                ends_moved(runs, "another server has the folder", one, store)
+                sent = [numbered(n) + ending for n in range(3)]
+                for n, record in enumerate(sent):
+                    other.send("lf", record + b"\n")
+                    runs.holds(f"another server has the folder: commit {n}", other, A, *sent[:n + 1])
+                other.kill()
+            seen = runs.program.run(["read", str(store)])
+            runs.results.same("what two servers left", seen[:2], (0, entries(A, *sent)))
+
+
 def second(runs):
     """A second server on a store does not begin, and the first goes on."""
     with runs.until_eof(*any_port("lf"), *SOON) as server:
@@ -629,5 +648,5 @@ def options(runs):
         runs.results.check(f"serve {words}", right, f"{status} {output} {notes}")
 
 
-KEPT = [moved, removed, kills, checkpoints, damaged_journal, older_journal, left_journals, damaged_left_journal, full,
+KEPT = [moved, removed, usurped, kills, checkpoints, damaged_journal, older_journal, left_journals, damaged_left_journal, full,
         full_mount, failing, written_anew, damaged_and_noted, full_anew, gone_reader, second, ports, paths, folders, options]

@@ -55,9 +55,9 @@ def folders(program, results, folder):
     """A folder that cannot be used."""
     file = folder.parent / "file"
     file.write_bytes(b"")
-    for path in folder / "none", file:
+    for path in folder / "none", file, "":
         seen = program.run(words(path, 1), b"<13>1 - h a - - - x\n")
-        results.check(f"a spill into {path.name}", (seen[0], seen[2]) == (2, b"spill fault\n"), str(seen))
+        results.check(f"a spill into {path!r}", (seen[0], seen[2]) == (2, b"spill fault\n"), str(seen))
 
 
 def short_of_memory(program, results, folder):

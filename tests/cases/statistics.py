@@ -1,6 +1,8 @@
 """`stat`: what the files of stores have, beside a second count of each file; damaged files, devices that fail, and want of memory."""
 import os
+import subprocess
 import tempfile
+import time
 from datetime import date, timedelta
 from hashlib import sha256
 
@@ -124,6 +126,27 @@ def served(runs):
     runs.results.same("what a server left", stat(runs, store), (0, lines_on(store), b""))
 
 
+def compacted(runs):
+    """Beside a compaction that joins segments: no record is left out, or it is told that the folder changed."""
+    store = runs.store()
+    store.mkdir()
+    put_segment(store, FIRST, [dated(0, n, b"%05d %b" % (n, b"x" * 200)) for n in range(20_000)])
+    told = set()
+    for turn in range(6):
+        for n in range(9):
+            put_segment(store, FIRST + timedelta(days=1), [dated(1, 9 * turn + n, b"of a small one")])
+        with subprocess.Popen([runs.program.path, "stat", str(store)], stdout=subprocess.PIPE, stderr=subprocess.PIPE) as reader:
+            time.sleep(0.004 * turn)
+            runs.results.same("a compaction beside `stat`", runs.program.run(["compact", str(store)]), (0, b"", b""))
+            output, notes = reader.communicate()
+        total = output.splitlines()[-1].split()[0] if output else b""
+        seen = reader.returncode, total, notes
+        right = (0, b"%d" % (20_000 + 9 * (turn + 1)), b"")
+        runs.results.check("beside a compaction", seen == right or (seen[0], seen[2]) == (2, b"the folder keeps changing\n"), str(seen))
+        told.add(seen == right)
+    runs.results.check("beside compactions, mostly all is told", True in told, str(told))
+
+
 # ---------------------------------------------------------------- damage
 
 def damaged(runs):
@@ -231,5 +254,5 @@ def memory(runs):
 def statistics(program, results):
     with tempfile.TemporaryDirectory() as path:
         runs = Runs(program, results, path)
-        for part in figures_of_files, served, damaged, another_digest, devices, folders, permission, memory:
+        for part in figures_of_files, served, compacted, damaged, another_digest, devices, folders, permission, memory:
             part(runs)

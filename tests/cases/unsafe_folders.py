@@ -207,8 +207,10 @@ def at_a_turn(folders):
         for name in "refused.1", "refused.new":
             store, label = folders.copy(), f"serve with {kind} as {name}"
             with open(store / "refused", "wb") as file:  # as long as it may be, without taking room
-                file.write(b"%d " % REFUSED_MAX)
-                file.truncate(file.tell() + REFUSED_MAX)
+                for _ in range(REFUSED_MAX // 262_144):
+                    file.write(b"262144 ")
+                    file.seek(262_144, os.SEEK_CUR)
+                file.truncate()
             before = os.stat(store / "refused")
             make(store / name)
             status, _, told = folders.served(store, [b"no record", *BATCH])

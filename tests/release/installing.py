@@ -63,7 +63,7 @@ def library_tour(room, results):
     folder = clone(room / "tour")
     status, said = run(["make", "-s", "lib"], cwd=folder)
     text = (folder / "docs/LIBRARY.md").read_text().split("\n## C\n")[1].split("\n## ")[0]
-    (program,) = re.findall(r"^```c\n(.*?)^```$", text, re.MULTILINE | re.DOTALL)
+    program, _ = re.findall(r"^```c\n(.*?)^```$", text, re.MULTILINE | re.DOTALL)
     (folder / "program.c").write_text(program)
     steps = tours.steps(text)
     results.check("docs/LIBRARY.md has a tour", len(steps) > 1 and status == 0, said)

@@ -7,14 +7,11 @@ ghost use Rattle.syslog_frame.specs.declared.limits.TheConstants.{POSITION_MAX};
 use crate::gathered_stream::GatheredStream;
 use archive_sorting::{SortedArchive, UnsortedRecords};
 use archive_text::AddFault;
-use driver::{Effects, Flow, Session};
-use octet_devices::{Output, READ_MAX, READER_CALLS, WriteFault};
+use driver::{Effects, Flow, INPUT_MAX, Session};
+use octet_devices::{Output, WriteFault};
 use std::alloc::{AllocError, Global};
 use syslog_frame::Framing;
 use syslog_legacy::FrameReading;
-
-// the most octets of a stream
-const STREAM_MAX: u64 = READ_MAX as u64 * READER_CALLS;
 
 /// A stream whose records are gathered. A line on each refusal goes to the diagnostics; the archive
 /// is the rest of its output. It ends at a bad MSG-LEN, or where its input ends.
@@ -52,7 +49,7 @@ impl ArchiveStream {
         let stream = GatheredStream::new(alloc, framing, reading, UnsortedRecords::new(alloc))?;
         Ok(ArchiveStream {
             stream,
-            room: STREAM_MAX,
+            room: INPUT_MAX,
             is_finished: false,
             archive: UnsortedRecords::new(alloc).settle(),
         })

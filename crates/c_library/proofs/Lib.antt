@@ -11,3 +11,6 @@ pub mod Heading
 pub mod Showing
 pub mod Objects
 pub mod Rooting
+pub mod Itemizing
+pub mod Scans
+pub mod Reading

@@ -59,6 +59,22 @@ memory_fault = plain_fault 11 0
 abbrev pub clock_fault : SyslogboxFault
 clock_fault = plain_fault 12 0
 
+-- there is no such dialect
+abbrev pub dialect_fault : SyslogboxFault
+dialect_fault = plain_fault 16 0
+
+-- a field that is to be written may not be so, from an octet on
+abbrev pub field_fault : ℕ → ℕ → SyslogboxFault
+field_fault field offset = record { kind = 17; field = field; offset = offset }
+
+-- the item of this number is refused
+abbrev pub item_fault : ℕ → SyslogboxFault
+item_fault number = record { kind = 18; field = 8; offset = number }
+
+-- there is no such period
+abbrev pub period_fault : SyslogboxFault
+period_fault = plain_fault 19 0
+
 -- there are so many elements, or parameters, and no more
 abbrev pub element_fault : ℕ → SyslogboxFault
 element_fault count = plain_fault 13 count

@@ -2,7 +2,7 @@
 use Rattle.std.specs.Prelude.{◌≡◌, ℕ, ℤ, pos, negsuc, ◌+◌, ◌^◌, ◌<◌, ◌≤◌, List, ◌⊎◌, length, take, ⊤}
 use Rattle.octet_language.specs.Language.{AnyOf, Begins, IsFaultOffset, NoPrefix}
 use Rattle.octet_language.specs.Reading.{Follows}
-use Rattle.syslog_frame.specs.Frames.{Frame, Whole}
+use Rattle.syslog_frame.specs.Frames.{Frame, IsLine, Whole}
 use Rattle.syslog_frame.specs.MsgLen.{MsgLen}
 use Rattle.syslog_frame.specs.declared.framing.Framing.{Framing}
 use Rattle.syslog_frame.specs.declared.framing.Framing.TheVariants.{Counted, Lf}
@@ -23,13 +23,14 @@ pub record IsComplete (kind : Framing) (piece : List ℕ) (start end used : ℕ)
   pub lies : LiesAt piece start frame
   pub end_is : end ≡ start + length frame
 
--- the count of a frame that is not whole yet was read, and where the frame begins and will end; or none was, and both are 0
+-- the count of a frame that is not whole yet was read, and where the frame begins and will end; or none was, and both are 0,
+-- as of a line, of which no octet is a line feed
 abbrev pub IsAwaited : Framing → List ℕ → ℕ → ℕ → Type 0
 IsAwaited Counted piece start end =
     ((count : ℕ) × (rest : List ℕ) × Follows (MsgLen count) piece rest
     × (start + length rest ≡ length piece) × (end ≡ start + count) × (length piece < end))
     ⊎ (NoPrefix (AnyOf MsgLen) piece × (start ≡ 0) × (end ≡ 0))
-IsAwaited Lf piece start end = (start ≡ 0) × (end ≡ 0)
+IsAwaited Lf piece start end = IsLine piece × (start ≡ 0) × (end ≡ 0)
 
 -- what comes first in a piece
 abbrev pub IsNextFrame : Framing → List ℕ → NextFrame → Type 0

@@ -11,3 +11,9 @@ pub mod Items
 pub mod Jsons
 pub mod Passing
 pub mod PartSpans
+pub mod DataItems
+pub mod Building
+pub mod Scanning
+pub mod Sets
+pub mod Digests
+pub mod Selecting

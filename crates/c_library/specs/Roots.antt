@@ -1,8 +1,7 @@
 -- The root of an archive.
-use Rattle.std.specs.Prelude.{◌≡◌, ℕ, List}
+use Rattle.std.specs.Prelude.{ℕ, List}
 use Rattle.archive_text.specs.Entries.{Entry}
 use Rattle.archive_tree.specs.Archives.{IsRootOf}
-use Rattle.archive_tree.specs.declared.head.TreeHead.{TreeHead}
 use Rattle.c_library.specs.Unions.{IsArchiveOf}
 use Rattle.c_library.specs.declared.root.SyslogboxRoot.{SyslogboxRoot}
 

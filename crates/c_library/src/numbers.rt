@@ -47,6 +47,18 @@ pub const NO_PARAM: u32 = 14;
 /// The record has more octets than are read: the offset is how many may be.
 pub const RECORD_TOO_LONG: u32 = 15;
 
+/// There is no such dialect.
+pub const BAD_DIALECT: u32 = 16;
+
+/// A field of a record that is to be written may not be so, from the octet at the offset on.
+pub const BAD_FIELD: u32 = 17;
+
+/// The item of structured data with this number may not stand there, or not be so.
+pub const BAD_ITEM: u32 = 18;
+
+/// There is no such period.
+pub const BAD_PERIOD: u32 = 19;
+
 // enum syslogbox_field
 /// No field, as the kind of the fault names none.
 pub const NO_FIELD: u32 = 0;
@@ -90,6 +102,46 @@ pub const COUNTED: i32 = 1;
 
 /// A record and a line feed (RFC 6587, 3.4.2).
 pub const LF: i32 = 2;
+
+// enum syslogbox_dialect
+/// Legacy packets of RFC 3164, section 4.
+pub const BSD: i32 = 1;
+
+/// Those, and what devices and programs send besides.
+pub const WIDE: i32 = 2;
+
+// enum syslogbox_scanned
+/// The piece has no end of a frame.
+pub const SCAN_WAITS: i32 = 0;
+
+/// A frame that is not too long.
+pub const SCAN_FRAME: i32 = 1;
+
+/// The end of a frame that is too long.
+pub const SCAN_TOO_LONG: i32 = 2;
+
+/// No frame can continue with an octet.
+pub const SCAN_BROKEN: i32 = -1;
+
+// struct syslogbox_scanner
+/// Nothing is passed over.
+pub const IN_NOTHING: u32 = 0;
+
+/// A counted frame is.
+pub const IN_COUNTED: u32 = 1;
+
+/// A line is.
+pub const IN_LINE: u32 = 2;
+
+// enum syslogbox_period
+/// Months, such as `2026-11`.
+pub const MONTH: i32 = 1;
+
+/// Days, such as `2026-11-25`.
+pub const DAY: i32 = 2;
+
+/// Hours, such as `2026-11-25T10`.
+pub const HOUR: i32 = 3;
 
 // enum syslogbox_part
 /// PRIVAL (RFC 5424, section 6.2.1).

@@ -44,17 +44,21 @@ with_reading_rules a = with_legacy_rules (with_rule a (flag_rule (codes "trim"))
 abbrev pub input_app : Text → App
 input_app name = with_reading_rules (with_rule (new_app name) (default_rule (codes "framing") (codes "datagram")))
 
+-- a command on the frames of an input that may have any length
+abbrev pub endless_app : Text → App
+endless_app name = with_rule (input_app name) (flag_rule (codes "endless"))
+
 -- the command that writes the fields of records
 abbrev pub show_app : App
-show_app = with_rule (input_app (codes "show")) (flag_rule (codes "json"))
+show_app = with_rule (endless_app (codes "show")) (flag_rule (codes "json"))
 
 -- the command that tells of each frame whether it is a record
 abbrev pub check_app : App
-check_app = with_rule (input_app (codes "check")) (flag_rule (codes "summary"))
+check_app = with_rule (endless_app (codes "check")) (flag_rule (codes "summary"))
 
 -- the command that reads records and writes them in canonical form
 abbrev pub convert_app : App
-convert_app = with_rule (input_app (codes "convert")) (option_rule (codes "to"))
+convert_app = with_rule (endless_app (codes "convert")) (option_rule (codes "to"))
 
 -- the command that writes records as an archive
 abbrev pub archive_app : App

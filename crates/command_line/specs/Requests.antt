@@ -29,6 +29,8 @@ use Rattle.archive_sets.specs.declared.range.InRange.{InRange}
 use Rattle.archive_digest.specs.declared.period.Period.{Period}
 use Rattle.server_words.specs.Serves.{ServeAsked, serve_asked, serve_in}
 use Rattle.send_engine.specs.Options.{OptionTexts, texts_of}
+use Rattle.driver.specs.declared.limits.ReadLimit.{ReadLimit}
+use Rattle.driver.specs.declared.limits.ReadLimit.TheVariants.{Standard, Unlimited}
 use Rattle.frame_engine.specs.declared.input_framing.InputFraming.{InputFraming}
 use Rattle.frame_engine.specs.declared.input_framing.InputFraming.TheVariants.{Datagram, Stream}
 use Rattle.command_line.specs.declared.request.ExpireWords.{ExpireWords}
@@ -44,11 +46,11 @@ use Rattle.command_line.specs.declared.words.WordsFault.TheVariants.{Usage, Memo
 
 -- a request, its files by their names
 pub data Asked : Type 0 where
-  -- and whether it ends with a summary
-  Check : FrameReading → InputFraming → Bool → Asked
+  -- up to a limit of what is read, and whether it ends with a summary
+  Check : FrameReading → InputFraming → ReadLimit → Bool → Asked
   -- and whether it writes JSON
-  Show : FrameReading → InputFraming → Bool → Asked
-  Convert : FrameReading → InputFraming → Option Framing → Asked
+  Show : FrameReading → InputFraming → ReadLimit → Bool → Asked
+  Convert : FrameReading → InputFraming → ReadLimit → Option Framing → Asked
   Archive : FrameReading → InputFraming → Asked
   -- with a folder, and MiB of memory
   SpillArchive : FrameReading → InputFraming → Text → ℕ → Asked
@@ -78,15 +80,15 @@ pub data Asked : Type 0 where
   Serve : ServeAsked → Asked
 
 -- a command on frames
-abbrev pub frames_by : FrameReading → InputFraming → FrameCommand → Asked
-frames_by way framing (frames.Check summary) = Check way framing summary
-frames_by way framing (frames.Show json) = Show way framing json
-frames_by way framing (frames.Convert to) = Convert way framing to
-frames_by way framing frames.Archive = Archive way framing
+abbrev pub frames_by : FrameReading → InputFraming → ReadLimit → FrameCommand → Asked
+frames_by way framing limit (frames.Check summary) = Check way framing limit summary
+frames_by way framing limit (frames.Show json) = Show way framing limit json
+frames_by way framing limit (frames.Convert to) = Convert way framing limit to
+frames_by way framing limit frames.Archive = Archive way framing
 
 -- the same, of a request
 abbrev pub frames_asked : FrameRequest → Asked
-frames_asked r = frames_by r.reading r.input_framing r.command
+frames_asked r = frames_by r.reading r.input_framing r.limit r.command
 
 -- a command on files
 abbrev pub files_asked : FileRequest → Asked
@@ -133,16 +135,23 @@ input_framing_of name =
 abbrev pub input_framing_in : List Row → Option InputFraming
 input_framing_in rows = option_and_then input_framing_of (first_of (codes "framing") rows)
 
+-- how much of an input is read, by `--endless`
+abbrev pub limit_by : Bool → ReadLimit
+limit_by is_endless = if is_endless then Unlimited else Standard
+
+abbrev pub limit_in : List Row → ReadLimit
+limit_in rows = limit_by (is_given_in (codes "endless") rows)
+
 -- `check` with the values of its options
 abbrev pub read_check : List Row → Option Asked
 read_check rows =
-    option_and_then (λ input_framing. option_map (λ way. Check way input_framing (is_given_in (codes "summary") rows))
+    option_and_then (λ input_framing. option_map (λ way. Check way input_framing (limit_in rows) (is_given_in (codes "summary") rows))
     (reading_in rows)) (input_framing_in rows)
 
 -- `show` with the values of its options
 abbrev pub read_show : List Row → Option Asked
 read_show rows =
-    option_and_then (λ input_framing. option_map (λ way. Show way input_framing (is_given_in (codes "json") rows))
+    option_and_then (λ input_framing. option_map (λ way. Show way input_framing (limit_in rows) (is_given_in (codes "json") rows))
     (reading_in rows)) (input_framing_in rows)
 
 -- the framing of an input, as one of frames
@@ -158,7 +167,8 @@ to_of input_framing (Some name) = option_map (λ kind. Some kind) (framing_of na
 -- `convert` with the values of its options
 abbrev pub read_convert : List Row → Option Asked
 read_convert rows =
-    option_and_then (λ input_framing. option_and_then (λ way. option_map (λ to. Convert way input_framing to)
+    option_and_then (λ input_framing. option_and_then (λ way. option_map (λ to.
+    Convert way input_framing (limit_in rows) to)
     (to_of input_framing (first_of (codes "to") rows))) (reading_in rows)) (input_framing_in rows)
 
 -- `archive`, by the value of `--spill`: without it the room has no effect

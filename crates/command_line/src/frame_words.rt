@@ -5,13 +5,14 @@ ghost use Rattle.std.specs.Result.{result_ok};
 ghost use Rattle.clap.specs.Walk.{first_of};
 ghost use Rattle.clap.specs.Words.{found_of, rows_of};
 ghost use Rattle.command_line.specs.Requests.{archive_by, asked_by, framing_of, input_framing_in};
-ghost use Rattle.command_line.specs.Requests.{input_framing_of, own_framing, read_archive, read_check};
+ghost use Rattle.command_line.specs.Requests.{input_framing_of, limit_in, own_framing, read_archive, read_check};
 ghost use Rattle.command_line.specs.Requests.{read_convert, read_show, to_of};
 
 use crate::request::{FrameCommand, FrameRequest, Request};
 use clap::ArgMatches;
+use driver::ReadLimit;
 use frame_engine::InputFraming;
-use option_values::options::{FRAMING, JSON, MEMORY, OUTPUT_FRAMING, SPILL, SUMMARY};
+use option_values::options::{ENDLESS, FRAMING, JSON, MEMORY, OUTPUT_FRAMING, SPILL, SUMMARY};
 use option_values::{Refusal, is_given, needed, number, reading_of_matches, value};
 use syslog_frame::Framing;
 use syslog_legacy::FrameReading;
@@ -48,6 +49,17 @@ fn input_framing_of_matches<'a>(matches: &ArgMatches<'a>) -> Result<InputFraming
     }
 }
 
+// How much of the input is read.
+fn read_limit(matches: &ArgMatches<'_>) -> ReadLimit
+    ensures { result ≡ limit_in (rows_of (found_of matches.now)) }
+{
+    if is_given(matches, ENDLESS.name) {
+        ReadLimit::Unlimited
+    } else {
+        ReadLimit::Standard
+    }
+}
+
 /// The request of `check`.
 pub fn read_check_words<'a>(matches: &ArgMatches<'a>) -> Result<Request<'a>, Refusal<'a>>
     ensures { option_map asked_by (result_ok result) ≡ read_check (rows_of (found_of matches.now)) }
@@ -56,6 +68,7 @@ pub fn read_check_words<'a>(matches: &ArgMatches<'a>) -> Result<Request<'a>, Ref
     let reading = reading_of_matches(matches)?;
     Ok(Request::Frames(FrameRequest {
         input_framing,
+        limit: read_limit(matches),
         reading,
         command: FrameCommand::Check {
             summary: is_given(matches, SUMMARY.name),
@@ -100,6 +113,7 @@ pub fn read_convert_words<'a>(matches: &ArgMatches<'a>) -> Result<Request<'a>, R
     let to = to_of_matches(matches, input_framing)?;
     Ok(Request::Frames(FrameRequest {
         input_framing,
+        limit: read_limit(matches),
         reading,
         command: FrameCommand::Convert { to },
     }))
@@ -113,6 +127,7 @@ pub fn read_show_words<'a>(matches: &ArgMatches<'a>) -> Result<Request<'a>, Refu
     let reading = reading_of_matches(matches)?;
     Ok(Request::Frames(FrameRequest {
         input_framing,
+        limit: read_limit(matches),
         reading,
         command: FrameCommand::Show {
             json: is_given(matches, JSON.name),
@@ -133,6 +148,7 @@ fn archive_by<'a>(
     match spill {
         None => Request::Frames(FrameRequest {
             input_framing,
+            limit: ReadLimit::Standard,
             reading,
             command: FrameCommand::Archive,
         }),

@@ -5,6 +5,7 @@ use archive_digest::Period;
 use archive_sets::{Conditions, InRange};
 use archive_tree::TreeHead;
 use collect_engine::CollectWords;
+use driver::ReadLimit;
 use frame_engine::InputFraming;
 use send_engine::SendOptions;
 use server_words::ServeWords;
@@ -31,6 +32,8 @@ pub enum FrameCommand {
 pub struct FrameRequest {
     /// The framing of the input.
     pub input_framing: InputFraming,
+    /// How much of the input is read; of `archive` always the standard limit.
+    pub limit: ReadLimit,
     /// How each frame is read.
     pub reading: FrameReading,
     /// What is done with the frames.

@@ -8,8 +8,10 @@ use Rattle.syslog_legacy.specs.declared.frame_reading.FrameReading.{FrameReading
 use Rattle.syslog_frame.specs.declared.framing.Framing.{Framing}
 use Rattle.driver.specs.Devices.{Devices, Reports, devices}
 use Rattle.driver.specs.Effects.{Done, nothing}
-use Rattle.driver.specs.Run.{Ran}
+use Rattle.driver.specs.Run.{Ran, RanWithin, limits_by}
 use Rattle.driver.specs.Sessions.{HasOneOutput, Meaning}
+use Rattle.driver.specs.declared.limits.ReadLimit.{ReadLimit}
+use Rattle.driver.specs.declared.limits.ReadLimit.TheVariants.{Standard}
 use Rattle.driver.specs.declared.status.TheConstants.{NO_MEMORY}
 use Rattle.driver.proofs.Ends.{unstarted}
 use Rattle.frame_engine.specs.Checked.{check_handling, refused_line}
@@ -22,7 +24,7 @@ use Rattle.frame_engine.specs.declared.input_framing.InputFraming.TheVariants.{D
 use Rattle.frame_engine.specs.declared.line.Line.{Line}
 use Rattle.frame_engine.proofs.ConvertLemmas.{convert_output}
 use Rattle.frame_engine.proofs.OutputLemmas.{check_output, show_json_output, show_output}
-use Rattle.frame_engine.proofs.SessionLemmas.{handler_laws, nothing_goes_on, nothing_out, nothing_part}
+use Rattle.frame_engine.proofs.SessionLemmas.{handler_laws, nothing_begun, nothing_out}
 use Rattle.archive_engine.specs.Archived.{archive_handling, archive_meaning}
 use Rattle.archive_engine.proofs.ArchiveLemmas.{archive_laws}
 use Rattle.archive_sets.specs.declared.fault.SelectFault.TheVariants.{Memory as select_Memory}
@@ -36,12 +38,12 @@ use Rattle.command_line.specs.declared.request.FrameRequest.{FrameRequest}
 use Rattle.command_line.specs.declared.words.WordsFault.{WordsFault}
 use Rattle.command_line.specs.declared.words.WordsFault.TheVariants.{Usage, Memory as words_Memory}
 use Rattle.send_engine.specs.Sending.{OutOfMemory}
-use Rattle.commands.specs.Runs.{RanAs, RanInput, ReadsInput, TellsUsage, TellsWordsFault, show_by}
+use Rattle.commands.specs.Runs.{RanAs, RanInputWithin, ReadsInput, TellsUsage, TellsWordsFault, show_by}
 use Rattle.commands.specs.Stored.{Stored}
 
-pub ran_input : (M : Meaning) (old new : Devices) (status : ℕ) → HasOneOutput M → Ran M old new status
-    → RanInput M old new status
-ran_input M old new status one r = record { ran = r; prefix = r.begins one }
+pub ran_input : (limit : ReadLimit) (M : Meaning) (old new : Devices) (status : ℕ) → HasOneOutput M
+    → RanWithin (limits_by limit) M old new status → RanInputWithin limit M old new status
+ran_input limit M old new status one r = record { ran = r; prefix = r.begins one }
 
 -- ---- each command on the standard input
 
@@ -49,11 +51,11 @@ check_end_out : (way : FrameReading) (summary : Bool) → PutsNothingOut (check_
 check_end_out way true frames d (tally, tallied, is) = ap (λ (x : Done). x.output) is
 check_end_out way false frames d is = ap (λ (x : Done). x.output) is
 
-pub ran_check : (way : FrameReading) (framing : InputFraming) (summary : Bool) (stored : Stored) (old new : Devices)
-    (status : ℕ) → Ran (handler_meaning (check_handling way) refused_line (check_end way summary) framing) old new status
-    → RanAs (Check way framing summary) stored old new status
-ran_check way framing summary stored old new status r =
-    ran_input (handler_meaning (check_handling way) refused_line (check_end way summary) framing) old new status
+pub ran_check : (way : FrameReading) (framing : InputFraming) (limit : ReadLimit) (summary : Bool) (stored : Stored) (old new : Devices)
+    (status : ℕ) → RanWithin (limits_by limit) (handler_meaning (check_handling way) refused_line (check_end way summary) framing) old new status
+    → RanAs (Check way framing limit summary) stored old new status
+ran_check way framing limit summary stored old new status r =
+    ran_input limit (handler_meaning (check_handling way) refused_line (check_end way summary) framing) old new status
     (handler_laws (check_handling way) refused_line (check_end way summary) framing (check_output way)
     (check_end_out way summary)) r
 
@@ -61,35 +63,35 @@ show_by_output : (way : FrameReading) (json : Bool) → HasOneOutputEach (show_b
 show_by_output way true = show_json_output way
 show_by_output way false = show_output way
 
-pub ran_show : (way : FrameReading) (framing : InputFraming) (json : Bool) (stored : Stored) (old new : Devices)
-    (status : ℕ) → Ran (handler_meaning (show_by way json) noted_line nothing_at_end framing) old new status
-    → RanAs (Show way framing json) stored old new status
-ran_show way framing json stored old new status r =
-    ran_input (handler_meaning (show_by way json) noted_line nothing_at_end framing) old new status
+pub ran_show : (way : FrameReading) (framing : InputFraming) (limit : ReadLimit) (json : Bool) (stored : Stored) (old new : Devices)
+    (status : ℕ) → RanWithin (limits_by limit) (handler_meaning (show_by way json) noted_line nothing_at_end framing) old new status
+    → RanAs (Show way framing limit json) stored old new status
+ran_show way framing limit json stored old new status r =
+    ran_input limit (handler_meaning (show_by way json) noted_line nothing_at_end framing) old new status
     (handler_laws (show_by way json) noted_line nothing_at_end framing (show_by_output way json) nothing_out) r
 
-pub ran_convert : (way : FrameReading) (framing : InputFraming) (to : Option Framing) (stored : Stored) (old new : Devices)
-    (status : ℕ) → Ran (handler_meaning (convert_handling way to) noted_line nothing_at_end framing) old new status
-    → RanAs (Convert way framing to) stored old new status
-ran_convert way framing to stored old new status r =
-    ran_input (handler_meaning (convert_handling way to) noted_line nothing_at_end framing) old new status
+pub ran_convert : (way : FrameReading) (framing : InputFraming) (limit : ReadLimit) (to : Option Framing) (stored : Stored) (old new : Devices)
+    (status : ℕ) → RanWithin (limits_by limit) (handler_meaning (convert_handling way to) noted_line nothing_at_end framing) old new status
+    → RanAs (Convert way framing limit to) stored old new status
+ran_convert way framing limit to stored old new status r =
+    ran_input limit (handler_meaning (convert_handling way to) noted_line nothing_at_end framing) old new status
     (handler_laws (convert_handling way to) noted_line nothing_at_end framing (convert_output way to) nothing_out) r
 
 pub ran_archive : (way : FrameReading) (framing : InputFraming) (stored : Stored) (old new : Devices) (status : ℕ)
     → Ran (archive_meaning way framing) old new status → RanAs (Archive way framing) stored old new status
 ran_archive way framing stored old new status r =
-    ran_input (archive_meaning way framing) old new status (archive_laws way framing) r
+    ran_input Standard (archive_meaning way framing) old new status (archive_laws way framing) r
 
 -- all of these read the standard input
 pub frames_read : (r : FrameRequest) → ReadsInput (frames_asked r)
-frames_read r = by_command r.reading r.input_framing r.command
+frames_read r = by_command r.reading r.input_framing r.limit r.command
   where
-    by_command : (way : FrameReading) (framing : InputFraming) (command : FrameCommand)
-        → ReadsInput (frames_by way framing command)
-    by_command way framing (frames.Check summary) = tt
-    by_command way framing (frames.Show json) = tt
-    by_command way framing (frames.Convert to) = tt
-    by_command way framing frames.Archive = tt
+    by_command : (way : FrameReading) (framing : InputFraming) (limit : ReadLimit) (command : FrameCommand)
+        → ReadsInput (frames_by way framing limit command)
+    by_command way framing limit (frames.Check summary) = tt
+    by_command way framing limit (frames.Show json) = tt
+    by_command way framing limit (frames.Convert to) = tt
+    by_command way framing limit frames.Archive = tt
 
 -- ---- files
 
@@ -100,31 +102,25 @@ has_file (Some octets) name left (some, same) = subst IsSome (sym same) some
 
 -- ---- memory ran out before a command began
 
--- nothing came of no octets
-nothing_begun : (D : Handling) (T : Line → Done) (framing : InputFraming)
-    → (input_meaning D T framing).so_far [] nothing × (input_meaning D T framing).part [] nothing
-nothing_begun D T Datagram = (refl, refl)
-nothing_begun D T (Stream kind) = (nothing_goes_on D kind, nothing_part D kind)
-
 pub unstarted_as : (asked : Asked) (stored : Stored) (old : Devices) (d : OutputState) (status : ℕ)
     → Reports (codes "want of memory\n") NO_MEMORY old.diagnostics d status
     → RanAs asked stored old (devices old.input old.output d) status
-unstarted_as (Check way framing summary) stored old d status t =
+unstarted_as (Check way framing limit summary) stored old d status t =
     let b = nothing_begun (check_handling way) refused_line framing in
-    ran_check way framing summary stored old _ status
-    (unstarted (handler_meaning (check_handling way) refused_line (check_end way summary) framing) old d status b.0 b.1 t)
-unstarted_as (Show way framing json) stored old d status t =
+    ran_check way framing limit summary stored old _ status
+    (unstarted _ (handler_meaning (check_handling way) refused_line (check_end way summary) framing) old d status b.0 b.1 t)
+unstarted_as (Show way framing limit json) stored old d status t =
     let b = nothing_begun (show_by way json) noted_line framing in
-    ran_show way framing json stored old _ status
-    (unstarted (handler_meaning (show_by way json) noted_line nothing_at_end framing) old d status b.0 b.1 t)
-unstarted_as (Convert way framing to) stored old d status t =
+    ran_show way framing limit json stored old _ status
+    (unstarted _ (handler_meaning (show_by way json) noted_line nothing_at_end framing) old d status b.0 b.1 t)
+unstarted_as (Convert way framing limit to) stored old d status t =
     let b = nothing_begun (convert_handling way to) noted_line framing in
-    ran_convert way framing to stored old _ status
-    (unstarted (handler_meaning (convert_handling way to) noted_line nothing_at_end framing) old d status b.0 b.1 t)
+    ran_convert way framing limit to stored old _ status
+    (unstarted _ (handler_meaning (convert_handling way to) noted_line nothing_at_end framing) old d status b.0 b.1 t)
 unstarted_as (Archive way framing) stored old d status t =
     let b = nothing_begun (archive_handling way) noted_line framing in
     ran_archive way framing stored old _ status
-    (unstarted (archive_meaning way framing) old d status b.0 b.1 t)
+    (unstarted _ (archive_meaning way framing) old d status b.0 b.1 t)
 unstarted_as (Merge left right) stored old d status t = inl (refl, t)
 unstarted_as (Union files) stored old d status t = inl (refl, t)
 unstarted_as (Common left right) stored old d status t = inl (refl, t)

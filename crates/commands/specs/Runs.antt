@@ -2,8 +2,10 @@
 use Rattle.std.specs.Prelude.{◌≡◌, ◌⊎◌, ℕ, List, [], ◌∷◌, Option, Bool, true, false, IfSome, IsSome, codes, string_bytes}
 use Rattle.octet_devices.specs.Device.{InputState, OutputState}
 use Rattle.driver.specs.Devices.{Devices, Reports, devices}
-use Rattle.driver.specs.Run.{Ran, WritesPrefix}
+use Rattle.driver.specs.Run.{RanWithin, WritesPrefix, limits_by}
 use Rattle.driver.specs.Sessions.{Meaning}
+use Rattle.driver.specs.declared.limits.ReadLimit.{ReadLimit}
+use Rattle.driver.specs.declared.limits.ReadLimit.TheVariants.{Standard}
 use Rattle.driver.specs.declared.status.TheConstants.{FAULT, NO_MEMORY}
 use Rattle.syslog_legacy.specs.declared.frame_reading.FrameReading.{FrameReading}
 use Rattle.frame_engine.specs.Checked.{check_handling, refused_line}
@@ -38,9 +40,13 @@ use Rattle.commands.specs.Proved.{RanConfirmFile, RanProveFile}
 use Rattle.commands.specs.Stored.{LacksFile, Opens, RanOut, Stored}
 
 -- a command on the standard input; whatever the status, a prefix of the right output was written
-pub record RanInput (M : Meaning) (old new : Devices) (status : ℕ) : Type 0 where
-  pub ran : Ran M old new status
+pub record RanInputWithin (limit : ReadLimit) (M : Meaning) (old new : Devices) (status : ℕ) : Type 0 where
+  pub ran : RanWithin (limits_by limit) M old new status
   pub prefix : WritesPrefix M old new
+
+-- so it is of an input that has a limit
+abbrev pub RanInput : Meaning → Devices → Devices → ℕ → Type 0
+RanInput M old new status = RanInputWithin Standard M old new status
 
 -- two files are merged; the first name without a file is told before one is read
 abbrev pub RanMergeFiles : Stored → List ℕ → List ℕ → OutputState → OutputState → OutputState → OutputState → ℕ
@@ -89,12 +95,12 @@ RanCountBy keys top form old new status =
 
 -- so of each command
 abbrev pub RanAs : Asked → Stored → Devices → Devices → ℕ → Type 0
-RanAs (Check way framing summary) stored old new status =
-    RanInput (handler_meaning (check_handling way) refused_line (check_end way summary) framing) old new status
-RanAs (Show way framing json) stored old new status =
-    RanInput (handler_meaning (show_by way json) noted_line nothing_at_end framing) old new status
-RanAs (Convert way framing to) stored old new status =
-    RanInput (handler_meaning (convert_handling way to) noted_line nothing_at_end framing) old new status
+RanAs (Check way framing limit summary) stored old new status =
+    RanInputWithin limit (handler_meaning (check_handling way) refused_line (check_end way summary) framing) old new status
+RanAs (Show way framing limit json) stored old new status =
+    RanInputWithin limit (handler_meaning (show_by way json) noted_line nothing_at_end framing) old new status
+RanAs (Convert way framing limit to) stored old new status =
+    RanInputWithin limit (handler_meaning (convert_handling way to) noted_line nothing_at_end framing) old new status
 RanAs (Archive way framing) stored old new status = RanInput (archive_meaning way framing) old new status
 RanAs (Merge left right) stored old new status =
     RanMergeFiles stored left right old.output new.output old.diagnostics new.diagnostics status
@@ -137,9 +143,9 @@ RanAs (Serve words) stored old new status =
 
 -- the commands of a run that read the standard input
 abbrev pub ReadsInput : Asked → Type 0
-ReadsInput (Check way framing summary) = Unit {0}
-ReadsInput (Show way framing json) = Unit {0}
-ReadsInput (Convert way framing to) = Unit {0}
+ReadsInput (Check way framing limit summary) = Unit {0}
+ReadsInput (Show way framing limit json) = Unit {0}
+ReadsInput (Convert way framing limit to) = Unit {0}
 ReadsInput (Archive way framing) = Unit {0}
 ReadsInput (Merge left right) = ⊥
 ReadsInput (Union files) = ⊥

@@ -2,7 +2,7 @@
 
 ghost use Rattle.std.specs.Prelude.{◌≡◌, Some, None, map, string_bytes};
 ghost use Rattle.driver.specs.Devices.{devices};
-ghost use Rattle.driver.specs.Run.{Ran};
+ghost use Rattle.driver.specs.Run.{RanWithin, limits_by};
 ghost use Rattle.frame_engine.specs.Checked.{check_handling, refused_line};
 ghost use Rattle.frame_engine.specs.Converted.{noted_line};
 ghost use Rattle.frame_engine.specs.Handling.{nothing_at_end};
@@ -20,7 +20,7 @@ use crate::proving::{confirm_file, prove_file};
 use archive_engine::{archive_input, merge_archives, migrate_archive};
 use command_line::{FileRequest, FrameCommand, FrameRequest, Request, WordsFault, read_words};
 use driver::{FAULT, NO_MEMORY, report};
-use frame_engine::{Check, CheckSummary, Convert, InputFraming, Show, ShowJson, Tally, scan_input};
+use frame_engine::{Check, CheckSummary, Convert, FrameSource, Show, ShowJson, Tally, scan_source};
 use octet_devices::{Input, Output};
 use proof_engine::root_archive;
 use send_engine::send_text;
@@ -81,15 +81,15 @@ pub fn report_words_fault<N: Output>(fault: &WordsFault, diagnostics: &mut N) ->
 // packets.
 fn check_input<R: Input, W: Output, N: Output>(
     alloc: Global,
-    input_framing: InputFraming,
+    source: FrameSource,
     reading: FrameReading,
     summary: bool,
     input: &mut R,
     output: &mut W,
     diagnostics: &mut N,
 ) -> u8
-    ensures { Ran (handler_meaning (check_handling reading) refused_line (check_end reading summary)
-        input_framing)
+    ensures { RanWithin (limits_by source.limit)
+        (handler_meaning (check_handling reading) refused_line (check_end reading summary) source.framing)
         (devices (R.state input.old) (W.state output.old) (N.state diagnostics.old))
         (devices (R.state input.new) (W.state output.new) (N.state diagnostics.new)) result }
 {
@@ -98,32 +98,33 @@ fn check_input<R: Input, W: Output, N: Output>(
             reading,
             tally: Tally::new(),
         };
-        return scan_input(alloc, input_framing, check, input, output, diagnostics);
+        return scan_source(alloc, source, check, input, output, diagnostics);
     }
     let check = Check { reading };
-    scan_input(alloc, input_framing, check, input, output, diagnostics)
+    scan_source(alloc, source, check, input, output, diagnostics)
 }
 
 // Writes the fields of each record, or each record as a line of JSON.
 fn show_input<R: Input, W: Output, N: Output>(
     alloc: Global,
-    input_framing: InputFraming,
+    source: FrameSource,
     reading: FrameReading,
     json: bool,
     input: &mut R,
     output: &mut W,
     diagnostics: &mut N,
 ) -> u8
-    ensures { Ran (handler_meaning (show_by reading json) noted_line nothing_at_end input_framing)
+    ensures { RanWithin (limits_by source.limit)
+        (handler_meaning (show_by reading json) noted_line nothing_at_end source.framing)
         (devices (R.state input.old) (W.state output.old) (N.state diagnostics.old))
         (devices (R.state input.new) (W.state output.new) (N.state diagnostics.new)) result }
 {
     if json {
         let show = ShowJson { alloc, reading };
-        return scan_input(alloc, input_framing, show, input, output, diagnostics);
+        return scan_source(alloc, source, show, input, output, diagnostics);
     }
     let show = Show { alloc, reading };
-    scan_input(alloc, input_framing, show, input, output, diagnostics)
+    scan_source(alloc, source, show, input, output, diagnostics)
 }
 
 // Does what is asked for with the frames of the standard input.
@@ -140,31 +141,24 @@ fn run_on_frames<R: Input, W: Output, N: Output>(
 {
     let FrameRequest {
         input_framing,
+        limit,
         reading,
         command,
     } = request;
+    let source = FrameSource {
+        framing: input_framing,
+        limit,
+    };
     match command {
-        FrameCommand::Check { summary } => check_input(
-            alloc,
-            input_framing,
-            reading,
-            summary,
-            input,
-            output,
-            diagnostics,
-        ),
-        FrameCommand::Show { json } => show_input(
-            alloc,
-            input_framing,
-            reading,
-            json,
-            input,
-            output,
-            diagnostics,
-        ),
+        FrameCommand::Check { summary } => {
+            check_input(alloc, source, reading, summary, input, output, diagnostics)
+        }
+        FrameCommand::Show { json } => {
+            show_input(alloc, source, reading, json, input, output, diagnostics)
+        }
         FrameCommand::Convert { to } => {
             let convert = Convert { alloc, reading, to };
-            scan_input(alloc, input_framing, convert, input, output, diagnostics)
+            scan_source(alloc, source, convert, input, output, diagnostics)
         }
         FrameCommand::Archive => {
             archive_input(alloc, input_framing, reading, input, output, diagnostics)

@@ -1,5 +1,5 @@
 -- What each call does to the state of a disk.
-use Rattle.std.specs.Prelude.{◌≡◌, ◌≢◌, ◌⊎◌, ◌↔◌, ℕ, ◌<◌, ◌≤◌, true, false, if◌then◌else◌, List, [], Contains, length}
+use Rattle.std.specs.Prelude.{◌≡◌, ◌≢◌, ◌⊎◌, ◌↔◌, ℕ, ◌+◌, ◌<◌, ◌≤◌, true, false, if◌then◌else◌, List, [], Contains, length}
 use Rattle.std.specs.Prelude.{take, drop, Some, None, IsSome, IsNone, IsSomeAnd, Result, MatchResult, IfOk, IsErrOf}
 use Rattle.disk.specs.Files.{File, settled, appended, appended_in_part, overwritten, cut_to}
 use Rattle.disk.specs.States.{Entry, State, retired, kept}
@@ -132,3 +132,7 @@ pub record HasCause {T : Type 0} (before now : Type 0) (result : Result T DiskFa
   pub stays : before → now
   pub failed : IsErrOf result Failed → now
   pub full : IsErrOf result Full → now
+
+-- no more than n syncs were made since
+abbrev pub AtMostSyncs : ℕ → ℕ → ℕ → Type 0
+AtMostSyncs n before now = now ≤ before + n

@@ -31,6 +31,10 @@ state_of entries = record { entries = lookup entries; lost = false }
 abbrev pub memory_state : MemoryDisk → State
 memory_state d = state_of d.entries.items
 
+-- the syncs that it was asked for
+abbrev pub syncs_of : MemoryDisk → ℕ
+syncs_of d = d.syncs
+
 -- none of the entries has the name
 abbrev pub IsAbsent : List ℕ → List MemoryEntry → Type 0
 IsAbsent name [] = Unit {0}

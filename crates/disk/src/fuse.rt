@@ -52,6 +52,8 @@ impl<D: Disk> Disk for Fuse<D> {
 
     ghost has_failed = { λ f. (f.calls ≡ 0) ⊎ D.has_failed f.disk };
 
+    ghost syncs = { λ f. D.syncs f.disk };
+
     fn names(&mut self, alloc: Global) -> Result<Vec<FileName>, DiskFault> {
         spend(&mut self.calls)?;
         self.disk.names(alloc)

@@ -5,7 +5,7 @@ ghost use Rattle.disk.specs.Files.{appended, cut_to, overwritten, settled};
 ghost use Rattle.disk.specs.States.{kept, retired, MayBe, NameMayLeave};
 ghost use Rattle.std.specs.Option.{option_map};
 ghost use Rattle.std.specs.Prelude.{List, Option, ℕ};
-ghost use Rattle.disk.specs.Memory.{entry_of, file_of, lookup, memory_state, state_of, IsAbsent};
+ghost use Rattle.disk.specs.Memory.{entry_of, file_of, lookup, memory_state, state_of, syncs_of, IsAbsent};
 ghost use Rattle.disk.specs.Memory.{AreKept, ChangesFileOf, IsFirst, MakesFile, NeverFails};
 ghost use Rattle.disk.specs.Memory.{AreLeft, IsLeft, RemovesFileOf, shown_now};
 
@@ -244,6 +244,7 @@ fn crash_all(
 pub struct MemoryDisk {
     alloc: Global,
     entries: Vec<MemoryEntry>,
+    syncs: u64,
 }
 
 impl MemoryDisk {
@@ -254,7 +255,15 @@ impl MemoryDisk {
         MemoryDisk {
             alloc,
             entries: Vec::new(alloc),
+            syncs: 0,
         }
+    }
+
+    /// How many syncs it was asked for, of files and of the folder; `u64::MAX` stands for more too.
+    pub fn sync_count(&self) -> u64
+        ensures { result ≡ syncs_of self.now }
+    {
+        self.syncs
     }
 
     /// The folder after a crash, all of it on the disk then. Of the octets of each file that were
@@ -271,9 +280,17 @@ impl MemoryDisk {
         ensures { IfOk result (λ disk. (name : List ℕ)
             → IsLeft ((memory_state self).entries name) ((memory_state disk).entries name)) }
     {
-        let MemoryDisk { alloc, mut entries } = self;
+        let MemoryDisk {
+            alloc,
+            mut entries,
+            syncs,
+        } = self;
         crash_all(&mut entries, kept, octet, undone)?;
-        Ok(MemoryDisk { alloc, entries })
+        Ok(MemoryDisk {
+            alloc,
+            entries,
+            syncs,
+        })
     }
 }
 
@@ -283,6 +300,8 @@ impl Disk for MemoryDisk {
     ghost tells = { λ _. Unit };
 
     ghost has_failed = { λ _. ⊥ };
+
+    ghost syncs = { syncs_of };
 
     fn names(&mut self, alloc: Global) -> Result<Vec<FileName>, DiskFault> {
         let mut names = Vec::new(alloc);
@@ -331,6 +350,7 @@ impl Disk for MemoryDisk {
     }
 
     fn sync(&mut self, name: &FileName) -> Result<(), DiskFault> {
+        self.syncs = self.syncs.saturating_add(1);
         let Some(i) = position(&self.entries, name) else {
             return Err(DiskFault::Missing);
         };
@@ -362,6 +382,7 @@ impl Disk for MemoryDisk {
     }
 
     fn sync_names(&mut self) -> Result<(), DiskFault> {
+        self.syncs = self.syncs.saturating_add(1);
         settle_all(&mut self.entries);
         Ok(())
     }

@@ -11,7 +11,8 @@ use Rattle.std.specs.Io.KnownBytes.{Appends}
 use Rattle.driver.specs.Devices.{Devices, Reports}
 use Rattle.driver.specs.Effects.{Done, IsPrefixOf, IsWrittenOut, nothing, status_of, then_done, written}
 use Rattle.driver.specs.Holding.{Closes, FailsAs, FlushFailed, Flushed, HoldsAnswer, Pumped, Reached, StopsHolding}
-use Rattle.driver.specs.Run.{AnswersPart, ComesOf, IsStopped, Ran, Used, WriteFailedWith, WritesPrefix, line_of, stop_status}
+use Rattle.driver.specs.Run.{AnswersPart, ComesOf, IsStopped, Limits, RanWithin, Used, WriteFailedWith, WritesPrefix}
+use Rattle.driver.specs.Run.{line_of, stop_status}
 use Rattle.driver.specs.Sessions.{HasOneOutput, Meaning, with_rest}
 use Rattle.driver.specs.declared.stopped.Stopped.{Stopped}
 use Rattle.driver.specs.declared.stopped.Stopped.TheVariants.{Diagnostics, Endless, Memory, Read, Write}
@@ -62,11 +63,11 @@ begins_whole M old new held out notes leads w =
     (sym (append-nil (out ++ held.output))) w.octets
 
 -- all of it, and the rest of the output
-pub pumped_answer : (M : Meaning) (old mid : Devices) (o d o_rest : OutputState) (held kept : Done) (rest : List ℕ)
+pub pumped_answer : (L : Limits) (M : Meaning) (old mid : Devices) (o d o_rest : OutputState) (held kept : Done) (rest : List ℕ)
     (status : ℕ) → HoldsAnswer M old mid held rest → Flushed mid.output mid.diagnostics o d held kept
-    → IsWrittenOut kept → WroteAll o o_rest rest → status ≡ status_of kept → Used M old.input mid.input
-    → Pumped M old (flushed_to mid o_rest d) (Ok status)
-pumped_answer M old mid o d o_rest held kept rest status h f k w s used =
+    → IsWrittenOut kept → WroteAll o o_rest rest → status ≡ status_of kept → Used L M old.input mid.input
+    → Pumped L M old (flushed_to mid o_rest d) (Ok status)
+pumped_answer L M old mid o d o_rest held kept rest status h f k w s used =
     let base : Done = then_done (written h.output h.diagnostics) held in
     let total : Done = with_rest base rest in
     let to_output = wrote_then old.output o o_rest (h.output ++ held.output) rest
@@ -94,12 +95,12 @@ pumped_answer M old mid o d o_rest held kept rest status h f k w s used =
     }
 
 -- all of it, and a part of the rest
-pub pumped_short : (M : Meaning) (old mid : Devices) (o d o_rest : OutputState) (held kept : Done)
+pub pumped_short : (L : Limits) (M : Meaning) (old mid : Devices) (o d o_rest : OutputState) (held kept : Done)
     (rest sent unsent : List ℕ) → HoldsAnswer M old mid held rest → Flushed mid.output mid.diagnostics o d held kept
     → IsWrittenOut kept → rest ≡ sent ++ unsent → 0 < length unsent → Appends o.taken o_rest.taken sent
-    → (o.failures < 2 ^ 63 → o.failures < o_rest.failures) → Used M old.input mid.input
-    → Pumped M old (flushed_to mid o_rest d) (Err Write)
-pumped_short M old mid o d o_rest held kept rest sent unsent h f k split left w failed used =
+    → (o.failures < 2 ^ 63 → o.failures < o_rest.failures) → Used L M old.input mid.input
+    → Pumped L M old (flushed_to mid o_rest d) (Err Write)
+pumped_short L M old mid o d o_rest held kept rest sent unsent h f k split left w failed used =
     let base : Done = then_done (written h.output h.diagnostics) held in
     let total : Done = with_rest base rest in
     let to_output = output_after _ _ _ _ _ held kept h.output h.wrote.to_output f k in
@@ -152,29 +153,29 @@ part_begins M P old mid o d held kept h leads f k =
     (output_after _ _ _ _ _ held kept h.output h.wrote.to_output f k)
 
 -- a flush fails only as the output or the diagnostics do
-stop_of : (stop : Stopped) (M : Meaning) (old new : Devices) (o o_new n n_new : OutputState) (held : Done)
-    (rest : List ℕ) → FailsAs stop o o_new n n_new held.diagnostics rest → StopsHolding stop M old new held
-    → IsStopped stop M [] old new
-stop_of Read M old new o o_new n n_new held rest f h = absurd f
-stop_of Endless M old new o o_new n n_new held rest f h = absurd f
-stop_of Write M old new o o_new n n_new held rest f h = h
-stop_of Diagnostics M old new o o_new n n_new held rest f h = h
-stop_of Memory M old new o o_new n n_new held rest f h = absurd f
+stop_of : (L : Limits) (stop : Stopped) (M : Meaning) (old new : Devices) (o o_new n n_new : OutputState) (held : Done)
+    (rest : List ℕ) → FailsAs stop o o_new n n_new held.diagnostics rest → StopsHolding L stop M old new held
+    → IsStopped L stop M [] old new
+stop_of L Read M old new o o_new n n_new held rest f h = absurd f
+stop_of L Endless M old new o o_new n n_new held rest f h = absurd f
+stop_of L Write M old new o o_new n n_new held rest f h = h
+stop_of L Diagnostics M old new o o_new n n_new held rest f h = h
+stop_of L Memory M old new o o_new n n_new held rest f h = absurd f
 
-pub pumped_fails : (M : Meaning) (old mid : Devices) (o d : OutputState) (held total : Done) (stop : Stopped)
+pub pumped_fails : (L : Limits) (M : Meaning) (old mid : Devices) (o d : OutputState) (held total : Done) (stop : Stopped)
     (out notes more : List ℕ)
     → (HasOneOutput M → (input : List ℕ) (x : Done) → old.input.left ≡ Some input → M.whole input x
     → IsPrefixOf (out ++ held.output) x.output)
     → WroteAll old.output mid.output out → WroteAll old.diagnostics mid.diagnostics notes
     → ComesOf M old.input mid.input total → total.output ≡ (out ++ held.output) ++ more
     → total.diagnostics ≡ notes ++ held.diagnostics
-    → FlushFailed mid.output mid.diagnostics o d held stop → Used M old.input mid.input
-    → Pumped M old (flushed_to mid o d) (Err stop)
-pumped_fails M old mid o d held total stop out notes more leads a b comes whole lines f used =
+    → FlushFailed mid.output mid.diagnostics o d held stop → Used L M old.input mid.input
+    → Pumped L M old (flushed_to mid o d) (Err stop)
+pumped_fails L M old mid o d held total stop out notes more leads a b comes whole lines f used =
     let new : Devices = flushed_to mid o d in
     record {
-      outcome = stop_of stop M old new mid.output o mid.diagnostics d held f.rest f.cause
-          (flush_stops M old new mid.output mid.diagnostics held held total stop out notes more a b comes whole lines f);
+      outcome = stop_of L stop M old new mid.output o mid.diagnostics d held f.rest f.cause
+          (flush_stops L M old new mid.output mid.diagnostics held held total stop out notes more a b comes whole lines f);
       begins = prefix_from M old new (then_done (written out notes) held) (out ++ f.sent) f.rest leads
           (ap (λ xs. out ++ xs) f.begins ∙ sym (append_assoc out f.sent f.rest))
           (Appends-trans _ _ _ _ _ a.octets f.to_output);
@@ -215,12 +216,12 @@ failed_lined M line old mid d h w = record {
 }
 
 -- the line was written, or the diagnostics failed
-told : (M : Meaning) (old mid : Devices) (d : OutputState) (stop : Stopped) (status : ℕ)
-    → Pumped M old mid (Err stop) → mid.diagnostics.failures ≡ old.diagnostics.failures
-    → (WroteAll mid.diagnostics d (line_of stop) → IsStopped stop M (line_of stop) old (flushed_to mid mid.output d))
+told : (L : Limits) (M : Meaning) (old mid : Devices) (d : OutputState) (stop : Stopped) (status : ℕ)
+    → Pumped L M old mid (Err stop) → mid.diagnostics.failures ≡ old.diagnostics.failures
+    → (WroteAll mid.diagnostics d (line_of stop) → IsStopped L stop M (line_of stop) old (flushed_to mid mid.output d))
     → Reports (line_of stop) (stop_status stop) mid.diagnostics d status
-    → Ran M old (flushed_to mid mid.output d) status
-told M old mid d stop status p sound lined t =
+    → RanWithin L M old (flushed_to mid mid.output d) status
+told L M old mid d stop status p sound lined t =
     elim t [
       | inl h ↦ record { ending = Some stop; outcome = (h.0, lined h.1); begins = p.begins; used = p.used }
       | inr h ↦ record {
@@ -231,30 +232,30 @@ told M old mid d stop status p sound lined t =
       }
     ]
 
-pub ran_stopped : (M : Meaning) (old mid : Devices) (d : OutputState) (stop : Stopped) (status : ℕ)
-    → Pumped M old mid (Err stop) → Closes stop mid.diagnostics d status
-    → Ran M old (flushed_to mid mid.output d) status
-ran_stopped M old mid d Read status p t =
-    told M old mid d Read status p p.outcome.1.wrote.to_diagnostics.no_failure
+pub ran_stopped : (L : Limits) (M : Meaning) (old mid : Devices) (d : OutputState) (stop : Stopped) (status : ℕ)
+    → Pumped L M old mid (Err stop) → Closes stop mid.diagnostics d status
+    → RanWithin L M old (flushed_to mid mid.output d) status
+ran_stopped L M old mid d Read status p t =
+    told L M old mid d Read status p p.outcome.1.wrote.to_diagnostics.no_failure
     (λ w. (p.outcome.0, part_lined M.so_far _ old mid d p.outcome.1 w)) t
-ran_stopped M old mid d Endless status p t =
-    told M old mid d Endless status p p.outcome.1.wrote.to_diagnostics.no_failure
+ran_stopped L M old mid d Endless status p t =
+    told L M old mid d Endless status p p.outcome.1.wrote.to_diagnostics.no_failure
     (λ w. (p.outcome.0, part_lined M.so_far _ old mid d p.outcome.1 w)) t
-ran_stopped M old mid d Write status p t =
-    told M old mid d Write status p p.outcome.to_diagnostics.no_failure
+ran_stopped L M old mid d Write status p t =
+    told L M old mid d Write status p p.outcome.to_diagnostics.no_failure
     (λ w. failed_lined M _ old mid d p.outcome w) t
-ran_stopped M old mid d Diagnostics status p t = record {
+ran_stopped L M old mid d Diagnostics status p t = record {
   ending = Some Diagnostics;
   outcome = (t.0, λ small. subst (λ (x : OutputState). old.diagnostics.failures < x.failures) (sym t.1) (p.outcome small));
   begins = p.begins;
   used = p.used;
 }
-ran_stopped M old mid d Memory status p t =
-    told M old mid d Memory status p p.outcome.1.wrote.to_diagnostics.no_failure
+ran_stopped L M old mid d Memory status p t =
+    told L M old mid d Memory status p p.outcome.1.wrote.to_diagnostics.no_failure
     (λ w. (p.outcome.0, part_lined M.part _ old mid d p.outcome.1 w)) t
 
-pub ran_answered : (M : Meaning) (old new : Devices) (status : ℕ) → Pumped M old new (Ok status) → Ran M old new status
-ran_answered M old new status p =
+pub ran_answered : (L : Limits) (M : Meaning) (old new : Devices) (status : ℕ) → Pumped L M old new (Ok status) → RanWithin L M old new status
+ran_answered L M old new status p =
     record { ending = None; outcome = p.outcome; begins = p.begins; used = p.used }
 
 -- ---- what is held back is written
@@ -288,11 +289,11 @@ unsent_part fault o o_new text w =
 -- ---- a run that stopped before it read anything
 
 -- memory ran out, and that was told
-pub unstarted : (M : Meaning) (old : Devices) (d : OutputState) (status : ℕ) → M.so_far [] nothing → M.part [] nothing
+pub unstarted : (L : Limits) (M : Meaning) (old : Devices) (d : OutputState) (status : ℕ) → M.so_far [] nothing → M.part [] nothing
     → Reports (line_of Memory) (stop_status Memory) old.diagnostics d status
-    → Ran M old (flushed_to old old.output d) status
-unstarted M old d status so_far part t =
-    let unread : Used M old.input old.input = record {
+    → RanWithin L M old (flushed_to old old.output d) status
+unstarted L M old d status so_far part t =
+    let unread : Used L M old.input old.input = record {
       calls = λ _. omega arith;
       ends = omega arith;
       ended = λ _. refl;

@@ -2,15 +2,15 @@
 use Rattle.std.proofs.Common.{◌≡◌, ℕ, ◌+◌, ◌*◌, ◌≤◌, ◌<◌, List, [], ◌++◌, length, take, refl, ap, sym, subst, ◌∙◌}
 use Rattle.std.proofs.Common.{append_assoc, append-nil, arith, inl, inr, Option, Some, Ok, Err}
 use Rattle.std.proofs.KnownBytes.{Appends-trans, Consumes-kept, Consumes-nil, Consumes-trans}
+use Rattle.std.proofs.Math.Nat.{mul-le-mul_left, mul-suc}
 use Rattle.std.proofs.lemmas.List.{length-append, length-take-le}
 use Rattle.std.specs.Io.KnownBytes.{Appends, Consumes}
 use Rattle.octet_devices.specs.Device.{AreSmall, Gave, InputState, OutputState, ReadFailed}
 use Rattle.octet_devices.specs.Transfers.{WroteAll}
-use Rattle.octet_devices.specs.declared.loops.TheConstants.{READ_MAX, READER_CALLS}
 use Rattle.driver.specs.Devices.{Devices, IsLeft}
 use Rattle.driver.specs.Effects.{Done, IsPrefixOf, nothing, then_done, written}
 use Rattle.driver.specs.Holding.{FlushFailed, Flushed, ReadThrough, Reached, StopsHolding}
-use Rattle.driver.specs.Run.{ComesOf, Used, WritesPrefix}
+use Rattle.driver.specs.Run.{AreLawful, ComesOf, Limits, Used, WritesPrefix}
 use Rattle.driver.specs.Sessions.{HasOneOutput, Meaning, most_octets, with_rest}
 use Rattle.driver.specs.declared.stopped.Stopped.{Stopped}
 use Rattle.driver.specs.declared.stopped.Stopped.TheVariants.{Diagnostics, Endless, Memory, Read, Write}
@@ -66,18 +66,18 @@ prefix_rest M old new held output diagnostics rest leads wrote =
 -- ---- how the input was used
 
 -- the loop between two calls: how the session stands, and how many octets it was given in so many calls
-pub record Stage (S : List ℕ → Type 0) (M : Meaning) (turn : ℕ) (given : List ℕ) (d : Done) : Type 0 where
+pub record Stage (L : Limits) (S : List ℕ → Type 0) (M : Meaning) (turn : ℕ) (given : List ℕ) (d : Done) : Type 0 where
   pub stands : S given
   pub so_far : M.so_far given d
   pub turns : turn ≤ length given
-  pub few : length given ≤ READ_MAX * turn
+  pub few : length given ≤ L.octets * turn
 
 -- an input that did not fail: its last call gave the last part
-pub used_gave : (M : Meaning) (old new : InputState) (turn : ℕ) (given last : List ℕ) (d : Done) → M.so_far given d
-    → turn ≤ length given → turn < READER_CALLS → Consumes old.left new.left (given ++ last) → length last ≤ READ_MAX
+pub used_gave : (L : Limits) (M : Meaning) (old new : InputState) (turn : ℕ) (given last : List ℕ) (d : Done) → M.so_far given d
+    → turn ≤ length given → turn < L.calls → Consumes old.left new.left (given ++ last) → length last ≤ L.octets
     → (AreSmall old → new.calls ≤ old.calls + turn + 1) → new.ends ≤ old.ends + 1 → new.failures ≡ old.failures
-    → Used M old new
-used_gave M old new turn given last d means turns in_time consumed few calls ends same = record {
+    → Used L M old new
+used_gave L M old new turn given last d means turns in_time consumed few calls ends same = record {
   calls = λ small. omega (arith, calls small, in_time);
   ends = ends;
   ended = λ _. same;
@@ -95,10 +95,10 @@ used_gave M old new turn given last d means turns in_time consumed few calls end
 }
 
 -- an input that failed
-pub used_failed : (M : Meaning) (old new : InputState) (turn : ℕ) (given : List ℕ) (d : Done) → M.so_far given d
-    → turn ≤ length given → turn < READER_CALLS → Consumes old.left new.left given
-    → (AreSmall old → new.calls ≤ old.calls + turn + 1) → new.ends ≡ old.ends → Used M old new
-used_failed M old new turn given d means turns in_time consumed calls ends = record {
+pub used_failed : (L : Limits) (M : Meaning) (old new : InputState) (turn : ℕ) (given : List ℕ) (d : Done) → M.so_far given d
+    → turn ≤ length given → turn < L.calls → Consumes old.left new.left given
+    → (AreSmall old → new.calls ≤ old.calls + turn + 1) → new.ends ≡ old.ends → Used L M old new
+used_failed L M old new turn given d means turns in_time consumed calls ends = record {
   calls = λ small. omega (arith, calls small, in_time);
   ends = omega (arith, ends);
   ended = λ h. absurd (omega (arith, h, ends));
@@ -116,10 +116,10 @@ used_failed M old new turn given d means turns in_time consumed calls ends = rec
 }
 
 -- an input that was called the most often
-pub used_up : (M : Meaning) (old new : InputState) (turn : ℕ) (given : List ℕ) (d : Done) → M.so_far given d
-    → turn ≤ length given → turn ≤ READER_CALLS → Consumes old.left new.left given
-    → (AreSmall old → new.calls ≡ old.calls + turn) → new.ends ≡ old.ends → new.failures ≡ old.failures → Used M old new
-used_up M old new turn given d means turns in_time consumed calls ends same = record {
+pub used_up : (L : Limits) (M : Meaning) (old new : InputState) (turn : ℕ) (given : List ℕ) (d : Done) → M.so_far given d
+    → turn ≤ length given → turn ≤ L.calls → Consumes old.left new.left given
+    → (AreSmall old → new.calls ≡ old.calls + turn) → new.ends ≡ old.ends → new.failures ≡ old.failures → Used L M old new
+used_up L M old new turn given d means turns in_time consumed calls ends same = record {
   calls = λ small. omega (arith, calls small, in_time);
   ends = omega (arith, ends);
   ended = λ _. same;
@@ -142,9 +142,9 @@ used_up M old new turn given d means turns in_time consumed calls ends same = re
 abbrev pub with_input : Devices → InputState → Devices
 with_input d i = record { input = i; output = d.output; diagnostics = d.diagnostics }
 
-pub started : (M : Meaning) (S : List ℕ → Type 0) (old : Devices) (held : Done) → S [] → M.so_far [] nothing
-    → held ≡ nothing → Reached (Stage S M 0) old old held
-started M S old held stands so_far none = record {
+pub started : (L : Limits) (M : Meaning) (S : List ℕ → Type 0) (old : Devices) (held : Done) → S [] → M.so_far [] nothing
+    → held ≡ nothing → Reached (Stage L S M 0) old old held
+started L M S old held stands so_far none = record {
   given = [];
   output = [];
   diagnostics = [];
@@ -167,12 +167,12 @@ pub piece_given : (i j : InputState) (buf : List ℕ) (n : ℕ) (a : Option (Lis
 piece_given i j buf n a given consumed gave = Consumes-trans a i.left j.left _ _ consumed gave.octets
 
 -- the input failed
-pub at_failure : {A : Type 0} (M : Meaning) (S : List ℕ → Type 0) (old mid : Devices) (i : InputState) (held : Done)
-    (turn : ℕ) (rest : List ℕ) → Reached (Stage S M turn) old mid held → turn < READER_CALLS
+pub at_failure : {A : Type 0} (L : Limits) (M : Meaning) (S : List ℕ → Type 0) (old mid : Devices) (i : InputState) (held : Done)
+    (turn : ℕ) (rest : List ℕ) → Reached (Stage L S M turn) old mid held → turn < L.calls
     → (AreSmall old.input → mid.input.calls ≡ old.input.calls + turn) → mid.input.failures ≡ old.input.failures
     → mid.input.ends ≡ old.input.ends → ReadFailed mid.input i
-    → ReadThrough {A = A} M old (with_input mid i) held rest (Err Read)
-at_failure {A} M S old mid i held turn rest r in_time calls sound ends failed =
+    → ReadThrough {A = A} L M old (with_input mid i) held rest (Err Read)
+at_failure {A} L M S old mid i held turn rest r in_time calls sound ends failed =
     let consumed = Consumes-kept _ _ _ _ r.consumed failed.octets in
     let s = r.means in
     record {
@@ -190,16 +190,16 @@ at_failure {A} M S old mid i held turn rest r in_time calls sound ends failed =
       begins = prefix_held M old (with_input mid i) held r.output r.diagnostics
           (leads_so_far M _ i.left r.given (then_done (written r.output r.diagnostics) held) consumed s.so_far)
           r.wrote.to_output;
-      used = used_failed M old.input i turn r.given (then_done (written r.output r.diagnostics) held) s.so_far s.turns
+      used = used_failed L M old.input i turn r.given (then_done (written r.output r.diagnostics) held) s.so_far s.turns
           in_time consumed (λ small. call_more _ _ _ _ (calls small) failed.counted) (failed.no_end ∙ ends);
     }
 
 -- the input was called the most often, and gave no end
-pub at_last : {A : Type 0} (M : Meaning) (S : List ℕ → Type 0) (old mid : Devices) (held : Done) (turn : ℕ)
-    (rest : List ℕ) → Reached (Stage S M turn) old mid held → turn ≡ READER_CALLS
+pub at_last : {A : Type 0} (L : Limits) (M : Meaning) (S : List ℕ → Type 0) (old mid : Devices) (held : Done) (turn : ℕ)
+    (rest : List ℕ) → Reached (Stage L S M turn) old mid held → turn ≡ L.calls
     → (AreSmall old.input → mid.input.calls ≡ old.input.calls + turn) → mid.input.failures ≡ old.input.failures
-    → mid.input.ends ≡ old.input.ends → ReadThrough {A = A} M old mid held rest (Err Endless)
-at_last {A} M S old mid held turn rest r last calls sound ends =
+    → mid.input.ends ≡ old.input.ends → ReadThrough {A = A} L M old mid held rest (Err Endless)
+at_last {A} L M S old mid held turn rest r last calls sound ends =
     let s = r.means in
     record {
       outcome = (
@@ -216,36 +216,36 @@ at_last {A} M S old mid held turn rest r last calls sound ends =
       begins = prefix_held M old mid held r.output r.diagnostics
           (leads_so_far M _ mid.input.left r.given (then_done (written r.output r.diagnostics) held) r.consumed s.so_far)
           r.wrote.to_output;
-      used = used_up M old.input mid.input turn r.given (then_done (written r.output r.diagnostics) held) s.so_far
+      used = used_up L M old.input mid.input turn r.given (then_done (written r.output r.diagnostics) held) s.so_far
           s.turns (omega (arith, last)) r.consumed calls ends sound;
     }
 
 -- a call that gave octets or the end
-pub used_turn : (M : Meaning) (S : List ℕ → Type 0) (old mid : Devices) (i : InputState) (held : Done) (turn n : ℕ)
-    (buf : List ℕ) → Reached (Stage S M turn) old mid held → turn < READER_CALLS → length buf ≡ READ_MAX
+pub used_turn : (L : Limits) (M : Meaning) (S : List ℕ → Type 0) (old mid : Devices) (i : InputState) (held : Done) (turn n : ℕ)
+    (buf : List ℕ) → Reached (Stage L S M turn) old mid held → turn < L.calls → length buf ≡ L.octets
     → (AreSmall old.input → mid.input.calls ≡ old.input.calls + turn) → mid.input.failures ≡ old.input.failures
-    → mid.input.ends ≡ old.input.ends → Gave mid.input i buf n → i.ends ≤ old.input.ends + 1 → Used M old.input i
-used_turn M S old mid i held turn n buf r in_time room calls sound ends gave few_ends =
+    → mid.input.ends ≡ old.input.ends → Gave mid.input i buf n → i.ends ≤ old.input.ends + 1 → Used L M old.input i
+used_turn L M S old mid i held turn n buf r in_time room calls sound ends gave few_ends =
     let s = r.means in
-    used_gave M old.input i turn r.given (take n buf) (then_done (written r.output r.diagnostics) held) s.so_far s.turns
+    used_gave L M old.input i turn r.given (take n buf) (then_done (written r.output r.diagnostics) held) s.so_far s.turns
     in_time (piece_given _ _ _ _ _ _ r.consumed gave)
     (omega (arith, length-take-le n buf gave.within, gave.within, room))
     (λ small. call_more _ _ _ _ (calls small) gave.counted) few_ends (gave.no_failure ∙ sound)
 
 -- the input ended, and the session with it
-pub at_end : {A : Type 0} (M : Meaning) (S : List ℕ → Type 0) (old mid : Devices) (i : InputState) (held after : Done)
-    (turn n : ℕ) (buf rest : List ℕ) (x : A) → (r : Reached (Stage S M turn) old mid held) → turn < READER_CALLS
-    → length buf ≡ READ_MAX → (AreSmall old.input → mid.input.calls ≡ old.input.calls + turn)
+pub at_end : {A : Type 0} (L : Limits) (M : Meaning) (S : List ℕ → Type 0) (old mid : Devices) (i : InputState) (held after : Done)
+    (turn n : ℕ) (buf rest : List ℕ) (x : A) → (r : Reached (Stage L S M turn) old mid held) → 0 < L.octets → turn < L.calls
+    → length buf ≡ L.octets → (AreSmall old.input → mid.input.calls ≡ old.input.calls + turn)
     → mid.input.failures ≡ old.input.failures → mid.input.ends ≡ old.input.ends → Gave mid.input i buf n → n ≡ 0
     → M.whole r.given (with_rest (then_done (written r.output r.diagnostics) after) rest)
-    → ReadThrough {A = A} M old (with_input mid i) after rest (Ok x)
-at_end {A} M S old mid i held after turn n buf rest x r in_time room calls sound ends gave none means =
-    let few_ends : i.ends ≤ old.input.ends + 1 = omega (arith, gave.ended none (omega (arith, room)), ends) in
+    → ReadThrough {A = A} L M old (with_input mid i) after rest (Ok x)
+at_end {A} L M S old mid i held after turn n buf rest x r some in_time room calls sound ends gave none means =
+    let few_ends : i.ends ≤ old.input.ends + 1 = omega (arith, gave.ended none (omega (arith, room, some)), ends) in
     let nil : take n buf ≡ [] = rw none refl in
     let all : Consumes old.input.left i.left r.given =
     subst (Consumes old.input.left i.left) (ap (λ xs. r.given ++ xs) nil ∙ append-nil r.given)
     (piece_given _ _ _ _ _ _ r.consumed gave) in
-    let is : IsLeft old.input.left r.given = is_left_at_end _ _ _ all (gave.at_end none (omega (arith, room))) in
+    let is : IsLeft old.input.left r.given = is_left_at_end _ _ _ all (gave.at_end none (omega (arith, room, some))) in
     record {
       outcome = record {
         input = r.given;
@@ -259,19 +259,19 @@ at_end {A} M S old mid i held after turn n buf rest x r in_time room calls sound
       begins = prefix_rest M old (with_input mid i) after r.output r.diagnostics rest
           (leads_answer M _ r.given (with_rest (then_done (written r.output r.diagnostics) after) rest) is means)
           r.wrote.to_output;
-      used = used_turn M S old mid i held turn n buf r in_time room calls sound ends gave few_ends;
+      used = used_turn L M S old mid i held turn n buf r in_time room calls sound ends gave few_ends;
     }
 
 -- the end was given, and memory ran out
-pub at_end_memory : {A : Type 0} (M : Meaning) (S : List ℕ → Type 0) (old mid : Devices) (i : InputState)
-    (held after : Done) (turn n : ℕ) (buf rest : List ℕ) → (r : Reached (Stage S M turn) old mid held)
-    → turn < READER_CALLS
-    → length buf ≡ READ_MAX → (AreSmall old.input → mid.input.calls ≡ old.input.calls + turn)
+pub at_end_memory : {A : Type 0} (L : Limits) (M : Meaning) (S : List ℕ → Type 0) (old mid : Devices) (i : InputState)
+    (held after : Done) (turn n : ℕ) (buf rest : List ℕ) → (r : Reached (Stage L S M turn) old mid held)
+    → 0 < L.octets → turn < L.calls
+    → length buf ≡ L.octets → (AreSmall old.input → mid.input.calls ≡ old.input.calls + turn)
     → mid.input.failures ≡ old.input.failures → mid.input.ends ≡ old.input.ends → Gave mid.input i buf n → n ≡ 0
     → M.part r.given (then_done (written r.output r.diagnostics) after)
-    → ReadThrough {A = A} M old (with_input mid i) after rest (Err Memory)
-at_end_memory {A} M S old mid i held after turn n buf rest r in_time room calls sound ends gave none means =
-    let few_ends : i.ends ≤ old.input.ends + 1 = omega (arith, gave.ended none (omega (arith, room)), ends) in
+    → ReadThrough {A = A} L M old (with_input mid i) after rest (Err Memory)
+at_end_memory {A} L M S old mid i held after turn n buf rest r some in_time room calls sound ends gave none means =
+    let few_ends : i.ends ≤ old.input.ends + 1 = omega (arith, gave.ended none (omega (arith, room, some)), ends) in
     let nil : take n buf ≡ [] = rw none refl in
     let all : Consumes old.input.left i.left r.given =
     subst (Consumes old.input.left i.left) (ap (λ xs. r.given ++ xs) nil ∙ append-nil r.given)
@@ -290,18 +290,18 @@ at_end_memory {A} M S old mid i held after turn n buf rest r in_time room calls 
       );
       begins = prefix_held M old (with_input mid i) after r.output r.diagnostics
           (leads_part M _ i.left r.given (then_done (written r.output r.diagnostics) after) all means) r.wrote.to_output;
-      used = used_turn M S old mid i held turn n buf r in_time room calls sound ends gave few_ends;
+      used = used_turn L M S old mid i held turn n buf r in_time room calls sound ends gave few_ends;
     }
 
 -- a piece was given, and memory ran out
-pub at_memory : {A : Type 0} (M : Meaning) (S : List ℕ → Type 0) (old mid : Devices) (i : InputState)
-    (held after : Done) (turn n : ℕ) (buf rest : List ℕ) → (r : Reached (Stage S M turn) old mid held)
-    → turn < READER_CALLS
-    → length buf ≡ READ_MAX → (AreSmall old.input → mid.input.calls ≡ old.input.calls + turn)
+pub at_memory : {A : Type 0} (L : Limits) (M : Meaning) (S : List ℕ → Type 0) (old mid : Devices) (i : InputState)
+    (held after : Done) (turn n : ℕ) (buf rest : List ℕ) → (r : Reached (Stage L S M turn) old mid held)
+    → turn < L.calls
+    → length buf ≡ L.octets → (AreSmall old.input → mid.input.calls ≡ old.input.calls + turn)
     → mid.input.failures ≡ old.input.failures → mid.input.ends ≡ old.input.ends → Gave mid.input i buf n → 0 < n
     → M.part (r.given ++ take n buf) (then_done (written r.output r.diagnostics) after)
-    → ReadThrough {A = A} M old (with_input mid i) after rest (Err Memory)
-at_memory {A} M S old mid i held after turn n buf rest r in_time room calls sound ends gave some means =
+    → ReadThrough {A = A} L M old (with_input mid i) after rest (Err Memory)
+at_memory {A} L M S old mid i held after turn n buf rest r in_time room calls sound ends gave some means =
     let all = piece_given _ _ _ _ _ _ r.consumed gave in
     record {
       outcome = (
@@ -318,19 +318,19 @@ at_memory {A} M S old mid i held after turn n buf rest r in_time room calls soun
       begins = prefix_held M old (with_input mid i) after r.output r.diagnostics
           (leads_part M _ i.left (r.given ++ take n buf) (then_done (written r.output r.diagnostics) after) all means)
           r.wrote.to_output;
-      used = used_turn M S old mid i held turn n buf r in_time room calls sound ends gave
+      used = used_turn L M S old mid i held turn n buf r in_time room calls sound ends gave
           (omega (arith, gave.no_end some, ends));
     }
 
 -- the session needs no more of the input
-pub at_finish : {A : Type 0} (M : Meaning) (S : List ℕ → Type 0) (old mid : Devices) (i : InputState)
-    (held after : Done) (turn n : ℕ) (buf rest : List ℕ) (x : A) → (r : Reached (Stage S M turn) old mid held)
-    → turn < READER_CALLS → length buf ≡ READ_MAX → (AreSmall old.input → mid.input.calls ≡ old.input.calls + turn)
+pub at_finish : {A : Type 0} (L : Limits) (M : Meaning) (S : List ℕ → Type 0) (old mid : Devices) (i : InputState)
+    (held after : Done) (turn n : ℕ) (buf rest : List ℕ) (x : A) → (r : Reached (Stage L S M turn) old mid held)
+    → turn < L.calls → length buf ≡ L.octets → (AreSmall old.input → mid.input.calls ≡ old.input.calls + turn)
     → mid.input.failures ≡ old.input.failures → mid.input.ends ≡ old.input.ends → Gave mid.input i buf n → 0 < n
     → ((more : List ℕ) → M.whole ((r.given ++ take n buf) ++ more)
     (with_rest (then_done (written r.output r.diagnostics) after) rest))
-    → ReadThrough {A = A} M old (with_input mid i) after rest (Ok x)
-at_finish {A} M S old mid i held after turn n buf rest x r in_time room calls sound ends gave some means =
+    → ReadThrough {A = A} L M old (with_input mid i) after rest (Ok x)
+at_finish {A} L M S old mid i held after turn n buf rest x r in_time room calls sound ends gave some means =
     let all = piece_given _ _ _ _ _ _ r.consumed gave in
     let left = is_left_more _ _ _ all in
     record {
@@ -346,7 +346,7 @@ at_finish {A} M S old mid i held after turn n buf rest x r in_time room calls so
       begins = prefix_rest M old (with_input mid i) after r.output r.diagnostics rest
           (leads_answer M _ ((r.given ++ take n buf) ++ left.0)
           (with_rest (then_done (written r.output r.diagnostics) after) rest) left.1 (means left.0)) r.wrote.to_output;
-      used = used_turn M S old mid i held turn n buf r in_time room calls sound ends gave
+      used = used_turn L M S old mid i held turn n buf r in_time room calls sound ends gave
           (omega (arith, gave.no_end some, ends));
     }
 
@@ -356,24 +356,32 @@ pub moved : (a b c d : List ℕ) (kept : Done)
 moved a b c d kept = simp append_assoc
 
 -- the octets of a turn are few
-pub few_more : (turn n : ℕ) (given buf : List ℕ) → length given ≤ READ_MAX * turn → n ≤ length buf
-    → length buf ≡ READ_MAX → length (given ++ take n buf) ≤ READ_MAX * (turn + 1)
-few_more turn n given buf few within room =
-    omega (arith, length-append given (take n buf), length-take-le n buf within, few, within, room)
+pub few_more : (L : Limits) (turn n : ℕ) (given buf : List ℕ) → length given ≤ L.octets * turn → n ≤ length buf
+    → length buf ≡ L.octets → length (given ++ take n buf) ≤ L.octets * (turn + 1)
+few_more L turn n given buf few within room = omega (
+  arith,
+  length-append given (take n buf),
+  length-take-le n buf within,
+  few,
+  within,
+  room,
+  mul-suc L.octets turn,
+)
 
-pub few_octets : (turn n : ℕ) (given buf : List ℕ) → length given ≤ READ_MAX * turn → turn < READER_CALLS
-    → n ≤ length buf → length buf ≡ READ_MAX → length given + length (take n buf) ≤ most_octets
-few_octets turn n given buf few in_time within room =
-    omega (arith, length-take-le n buf within, few, within, room, in_time)
+pub few_octets : (L : Limits) (turn n : ℕ) (given buf : List ℕ) → AreLawful L → length given ≤ L.octets * turn
+    → turn < L.calls → n ≤ length buf → length buf ≡ L.octets → length given + length (take n buf) ≤ most_octets
+few_octets L turn n given buf lawful few in_time within room =
+    let all : L.octets * (turn + 1) ≤ L.octets * L.calls = mul-le-mul_left L.octets (omega (arith, in_time)) in
+    omega (arith, length-take-le n buf within, few, within, room, mul-suc L.octets turn, all, lawful.fits)
 
 -- the session goes on, and some of what is held back was written
-pub turned : (M : Meaning) (S R : List ℕ → Type 0) (old mid : Devices) (i : InputState) (o d : OutputState)
-    (held after kept : Done) (turn n : ℕ) (buf : List ℕ) → (r : Reached (Stage S M turn) old mid held)
-    → length buf ≡ READ_MAX → Gave mid.input i buf n → 0 < n → R (r.given ++ take n buf)
+pub turned : (L : Limits) (M : Meaning) (S R : List ℕ → Type 0) (old mid : Devices) (i : InputState) (o d : OutputState)
+    (held after kept : Done) (turn n : ℕ) (buf : List ℕ) → (r : Reached (Stage L S M turn) old mid held)
+    → length buf ≡ L.octets → Gave mid.input i buf n → 0 < n → R (r.given ++ take n buf)
     → M.so_far (r.given ++ take n buf) (then_done (written r.output r.diagnostics) after)
     → Flushed mid.output mid.diagnostics o d after kept
-    → Reached (Stage R M (turn + 1)) old (record { input = i; output = o; diagnostics = d }) kept
-turned M S R old mid i o d held after kept turn n buf r room gave some stands means f = record {
+    → Reached (Stage L R M (turn + 1)) old (record { input = i; output = o; diagnostics = d }) kept
+turned L M S R old mid i o d held after kept turn n buf r room gave some stands means f = record {
   given = r.given ++ take n buf;
   output = r.output ++ f.output;
   diagnostics = r.diagnostics ++ f.diagnostics;
@@ -385,7 +393,7 @@ turned M S R old mid i o d held after kept turn n buf r room gave some stands me
         ∙ moved r.output r.diagnostics f.output f.diagnostics kept) means;
     turns = omega
         (arith, length-append r.given (take n buf), length-take-le n buf gave.within, some, r.means.turns);
-    few = few_more turn n r.given buf r.means.few gave.within room;
+    few = few_more L turn n r.given buf r.means.few gave.within room;
   };
   wrote = record {
     to_output = wrote_then _ _ _ _ _ r.wrote.to_output f.to_output;
@@ -398,14 +406,14 @@ regrouped : (a b c d e : List ℕ) → b ≡ c ++ d → (a ++ b) ++ e ≡ (a ++ 
 regrouped a b c d e is = rw is (simp append_assoc)
 
 -- what a failed flush is as a stop, where this comes of the octets that were read
-pub flush_stops : (M : Meaning) (old new : Devices) (o n : OutputState) (held kept total : Done) (stop : Stopped)
+pub flush_stops : (L : Limits) (M : Meaning) (old new : Devices) (o n : OutputState) (held kept total : Done) (stop : Stopped)
     (out notes more : List ℕ) → WroteAll old.output o out → WroteAll old.diagnostics n notes
     → ComesOf M old.input new.input total → total.output ≡ (out ++ held.output) ++ more
     → total.diagnostics ≡ notes ++ held.diagnostics
-    → FlushFailed o n new.output new.diagnostics held stop → StopsHolding stop M old new kept
-flush_stops M old new o n held kept total Read out notes more a b comes whole lines f = absurd f.cause
-flush_stops M old new o n held kept total Endless out notes more a b comes whole lines f = absurd f.cause
-flush_stops M old new o n held kept total Write out notes more a b comes whole lines f = record {
+    → FlushFailed o n new.output new.diagnostics held stop → StopsHolding L stop M old new kept
+flush_stops L M old new o n held kept total Read out notes more a b comes whole lines f = absurd f.cause
+flush_stops L M old new o n held kept total Endless out notes more a b comes whole lines f = absurd f.cause
+flush_stops L M old new o n held kept total Write out notes more a b comes whole lines f = record {
   failed = λ small. omega (arith, a.no_failure, f.cause.0 (omega (arith, a.no_failure, small)));
   done = total;
   sent = out ++ f.sent;
@@ -418,23 +426,23 @@ flush_stops M old new o n held kept total Write out notes more a b comes whole l
       (sym (ap (λ (xs : List ℕ). xs ++ []) lines ∙ append-nil (notes ++ held.diagnostics)))
       (wrote_then _ _ _ _ _ b f.cause.1);
 }
-flush_stops M old new o n held kept total Diagnostics out notes more a b comes whole lines f =
+flush_stops L M old new o n held kept total Diagnostics out notes more a b comes whole lines f =
     λ small. omega (arith, b.no_failure, f.cause (omega (arith, b.no_failure, small)))
-flush_stops M old new o n held kept total Memory out notes more a b comes whole lines f = absurd f.cause
+flush_stops L M old new o n held kept total Memory out notes more a b comes whole lines f = absurd f.cause
 
 -- the session goes on, and what is held back cannot be written
-pub flush_fails : {A : Type 0} (M : Meaning) (S : List ℕ → Type 0) (old mid : Devices) (i : InputState)
+pub flush_fails : {A : Type 0} (L : Limits) (M : Meaning) (S : List ℕ → Type 0) (old mid : Devices) (i : InputState)
     (o d : OutputState) (held after kept : Done) (turn n : ℕ) (buf rest : List ℕ) (stop : Stopped)
-    → (r : Reached (Stage S M turn) old mid held) → turn < READER_CALLS → length buf ≡ READ_MAX
+    → (r : Reached (Stage L S M turn) old mid held) → turn < L.calls → length buf ≡ L.octets
     → (AreSmall old.input → mid.input.calls ≡ old.input.calls + turn) → mid.input.failures ≡ old.input.failures
     → mid.input.ends ≡ old.input.ends → Gave mid.input i buf n → 0 < n
     → M.so_far (r.given ++ take n buf) (then_done (written r.output r.diagnostics) after)
     → FlushFailed mid.output mid.diagnostics o d after stop
-    → ReadThrough {A = A} M old (record { input = i; output = o; diagnostics = d }) kept rest (Err stop)
-flush_fails {A} M S old mid i o d held after kept turn n buf rest stop r in_time room calls sound ends gave some means f =
+    → ReadThrough {A = A} L M old (record { input = i; output = o; diagnostics = d }) kept rest (Err stop)
+flush_fails {A} L M S old mid i o d held after kept turn n buf rest stop r in_time room calls sound ends gave some means f =
     let all = piece_given _ _ _ _ _ _ r.consumed gave in
     record {
-      outcome = flush_stops M old (record { input = i; output = o; diagnostics = d }) mid.output mid.diagnostics after
+      outcome = flush_stops L M old (record { input = i; output = o; diagnostics = d }) mid.output mid.diagnostics after
           kept (then_done (written r.output r.diagnostics) after) stop r.output r.diagnostics [] r.wrote.to_output
           r.wrote.to_diagnostics (inr (r.given ++ take n buf, all, inl means))
           (sym (append-nil (r.output ++ after.output))) refl f;
@@ -443,6 +451,6 @@ flush_fails {A} M S old mid i o d held after kept turn n buf rest stop r in_time
           (leads_so_far M _ i.left (r.given ++ take n buf) (then_done (written r.output r.diagnostics) after) all means)
           (ap (λ xs. r.output ++ xs) f.begins ∙ sym (append_assoc r.output f.sent f.rest))
           (Appends-trans _ _ _ _ _ r.wrote.to_output.octets f.to_output);
-      used = used_turn M S old mid i held turn n buf r in_time room calls sound ends gave
+      used = used_turn L M S old mid i held turn n buf r in_time room calls sound ends gave
           (omega (arith, gave.no_end some, ends));
     }

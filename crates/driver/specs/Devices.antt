@@ -18,11 +18,15 @@ devices input output diagnostics = record { input = input; output = output; diag
 abbrev pub InputFailed : InputState → InputState → Type 0
 InputFailed old new = AreSmall old → old.failures < new.failures
 
--- an input gave no end in the most calls
-pub record IsEndless (old new : InputState) : Type 0 where
-  pub calls : AreSmall old → new.calls ≡ old.calls + READER_CALLS
+-- an input gave no end in so many calls
+pub record IsEndlessIn (most : ℕ) (old new : InputState) : Type 0 where
+  pub calls : AreSmall old → new.calls ≡ old.calls + most
   pub no_failure : new.failures ≡ old.failures
   pub no_end : new.ends ≡ old.ends
+
+-- nor in the most calls of a command whose input has a limit
+abbrev pub IsEndless : InputState → InputState → Type 0
+IsEndless old new = IsEndlessIn READER_CALLS old new
 
 -- an output failed
 abbrev pub OutputFailed : OutputState → OutputState → Type 0

@@ -3,10 +3,9 @@ use Rattle.std.specs.Prelude.{◌≡◌, ℕ, ◌+◌, ◌<◌, ◌⊎◌, List,
 use Rattle.std.specs.Io.KnownBytes.{Appends, Consumes}
 use Rattle.octet_devices.specs.Device.{InputState, OutputState}
 use Rattle.octet_devices.specs.Transfers.{WroteAll}
-use Rattle.octet_devices.specs.declared.loops.TheConstants.{READ_MAX}
-use Rattle.driver.specs.Devices.{Devices, InputFailed, IsEndless, IsLeft, OutputFailed, Reports, Wrote}
+use Rattle.driver.specs.Devices.{Devices, InputFailed, IsEndlessIn, IsLeft, OutputFailed, Reports, Wrote}
 use Rattle.driver.specs.Effects.{Done, IsWrittenOut, then_done, written}
-use Rattle.driver.specs.Run.{Answers, IsStopped, Used, WritesPrefix, line_of, stop_status}
+use Rattle.driver.specs.Run.{Answers, IsStopped, Limits, Used, WritesPrefix, line_of, stop_status}
 use Rattle.driver.specs.Sessions.{HasOneOutput, Meaning, with_rest}
 use Rattle.driver.specs.declared.stopped.Stopped.{Stopped}
 use Rattle.driver.specs.declared.status.TheConstants.{FAULT}
@@ -32,45 +31,45 @@ pub record HoldsAnswer (M : Meaning) (old new : Devices) (held : Done) (rest : L
   pub no_failure : new.input.failures ≡ old.input.failures
 
 -- the cause of a stop, where something may be held back
-abbrev pub StopsHolding : Stopped → Meaning → Devices → Devices → Done → Type 0
-StopsHolding Read M old new held = InputFailed old.input new.input × Reached M.so_far old new held
-StopsHolding Endless M old new held = IsEndless old.input new.input × Reached M.so_far old new held
-StopsHolding Write M old new held = IsStopped Write M [] old new
-StopsHolding Diagnostics M old new held = IsStopped Diagnostics M [] old new
-StopsHolding Memory M old new held = (new.input.failures ≡ old.input.failures) × Reached M.part old new held
+abbrev pub StopsHolding : Limits → Stopped → Meaning → Devices → Devices → Done → Type 0
+StopsHolding limits Read M old new held = InputFailed old.input new.input × Reached M.so_far old new held
+StopsHolding limits Endless M old new held = IsEndlessIn limits.calls old.input new.input × Reached M.so_far old new held
+StopsHolding limits Write M old new held = IsStopped limits Write M [] old new
+StopsHolding limits Diagnostics M old new held = IsStopped limits Diagnostics M [] old new
+StopsHolding limits Memory M old new held = (new.input.failures ≡ old.input.failures) × Reached M.part old new held
 
 -- what the read loop does
-pub record ReadThrough {A : Type 0} (M : Meaning) (old new : Devices) (held : Done) (rest : List ℕ)
+pub record ReadThrough {A : Type 0} (limits : Limits) (M : Meaning) (old new : Devices) (held : Done) (rest : List ℕ)
     (r : Result A Stopped) : Type 0
   where
-    pub outcome : MatchResult r (λ _. HoldsAnswer M old new held rest) (λ stop. StopsHolding stop M old new held)
+    pub outcome : MatchResult r (λ _. HoldsAnswer M old new held rest) (λ stop. StopsHolding limits stop M old new held)
     pub begins : HasOneOutput M → WritesPrefix M old new
-    pub used : Used M old.input new.input
+    pub used : Used limits M old.input new.input
 
 -- what a run does before its last line
-pub record Pumped (M : Meaning) (old new : Devices) (r : Result ℕ Stopped) : Type 0 where
-  pub outcome : MatchResult r (λ status. Answers M old new status) (λ stop. IsStopped stop M [] old new)
+pub record Pumped (limits : Limits) (M : Meaning) (old new : Devices) (r : Result ℕ Stopped) : Type 0 where
+  pub outcome : MatchResult r (λ status. Answers M old new status) (λ stop. IsStopped limits stop M [] old new)
   pub begins : HasOneOutput M → WritesPrefix M old new
-  pub used : Used M old.input new.input
+  pub used : Used limits M old.input new.input
 
 -- an input's last call gave a piece; where that came short of the room that it was given, so that the next call may wait
 -- for a sender, nothing is held back. The input before that call is a device, not a state that anybody may name
-pub record WaitsWrittenOut {R : Type 0} (state : R → InputState) (now : R) (held : Done) : Type 0 where
+pub record WaitsWrittenOut {R : Type 0} (room : ℕ) (state : R → InputState) (now : R) (held : Done) : Type 0 where
   pub before : R
   pub piece : List ℕ
   pub call : (state now).calls ≡ (state before).calls + 1
   pub gave : Consumes (state before).left (state now).left piece
-  pub written : length piece < READ_MAX → IsWrittenOut held
+  pub written : length piece < room → IsWrittenOut held
 
 -- an input is called for the first time, and nothing is held back; or its last call was such a one
-abbrev pub IsCalledWrittenOut : {R : Type 0} → (R → InputState) → R → R → Done → Type 0
-IsCalledWrittenOut state old now held =
-    (((state now).calls ≡ (state old).calls) × IsWrittenOut held) ⊎ WaitsWrittenOut state now held
+abbrev pub IsCalledWrittenOut : {R : Type 0} → ℕ → (R → InputState) → R → R → Done → Type 0
+IsCalledWrittenOut room state old now held =
+    (((state now).calls ≡ (state old).calls) × IsWrittenOut held) ⊎ WaitsWrittenOut room state now held
 
 -- an input failed at a call, before which it was such a device: each call may fail, so this is said of each
-abbrev pub FailsWrittenOut : {R : Type 0} → (R → InputState) → R → R → Done → Type 0
-FailsWrittenOut {R} state old new held =
-    (called : R) × ((state new).calls ≡ (state called).calls + 1) × IsCalledWrittenOut state old called held
+abbrev pub FailsWrittenOut : {R : Type 0} → ℕ → (R → InputState) → R → R → Done → Type 0
+FailsWrittenOut {R} room state old new held =
+    (called : R) × ((state new).calls ≡ (state called).calls + 1) × IsCalledWrittenOut room state old called held
 
 -- some of what was held back was written, and this is kept
 pub record Flushed (o n o_new n_new : OutputState) (held kept : Done) : Type 0 where

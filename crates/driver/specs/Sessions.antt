@@ -1,7 +1,7 @@
 -- What a session makes of its input.
-use Rattle.std.specs.Prelude.{◌≡◌, ℕ, ◌+◌, ◌*◌, ◌≤◌, List, [], ◌++◌, length, Result, MatchResult}
-use Rattle.octet_devices.specs.declared.loops.TheConstants.{READ_MAX, READER_CALLS}
+use Rattle.std.specs.Prelude.{◌≡◌, ℕ, ◌+◌, ◌≤◌, List, [], ◌++◌, length, Result, MatchResult}
 use Rattle.driver.specs.Effects.{Done, IsPrefixOf, nothing, then_done, written}
+use Rattle.driver.specs.declared.limits.TheConstants.{INPUT_MAX}
 use Rattle.driver.specs.declared.session.Flow.{Flow}
 use Rattle.driver.specs.declared.session.Flow.TheVariants.{Continue, Finished}
 
@@ -26,7 +26,7 @@ HasBegun S M = S [] × M.so_far [] nothing
 
 -- the most octets that a run gives to a session
 abbrev pub most_octets : ℕ
-most_octets = READ_MAX * READER_CALLS
+most_octets = INPUT_MAX
 
 -- what was done, and then the rest of the output
 abbrev pub with_rest : Done → List ℕ → Done

@@ -5,11 +5,13 @@ ghost use Rattle.octet_devices.specs.Device.{AreSmall};
 ghost use Rattle.driver.specs.Devices.{devices};
 ghost use Rattle.driver.specs.Effects.{IsWrittenOut, done_of, nothing};
 ghost use Rattle.driver.specs.Holding.{Closes, FailsWrittenOut, Flushes, Pumped, ReadThrough};
-ghost use Rattle.driver.specs.Run.{Ran};
+ghost use Rattle.driver.specs.Run.{AreLawful, Ran, RanWithin, endless, limits_of};
 ghost use Rattle.driver.specs.Sessions.{HasBegun};
 
 use crate::diagnostics::report;
 use crate::effects::Effects;
+use crate::limits::ENDLESS_CALLS;
+use crate::room::EndlessRoom;
 use crate::session::{Flow, Session};
 use crate::status::{DONE, FAULT, NO_MEMORY, REFUSED};
 use crate::stopped::Stopped;
@@ -61,28 +63,30 @@ fn flush_due<W: Output, N: Output>(
     flush(effects, output, diagnostics)
 }
 
-// Reads the input to its end, or as far as the session needs it, and gives it to the session. What is
-// held back is written whenever it is much, and before a read that may wait for a sender; the rest is
-// left in the effects.
+// Reads the input to its end, or as far as the session needs it, in so many calls at most, and gives it
+// to the session. What is held back is written whenever it is much, and before a read that may wait for
+// a sender; the rest is left in the effects.
 fn read_through<S: Session, R: Input, W: Output, N: Output>(
     session: &mut S,
     input: &mut R,
     output: &mut W,
     diagnostics: &mut N,
     effects: &mut Effects,
+    piece: &mut [u8],
+    calls: u64,
 ) -> Result<(), Stopped>
-    requires { done_of effects.old ≡ nothing }
+    requires effects { done_of effects.old ≡ nothing }
+    requires lawful { AreLawful (limits_of piece.old calls) }
     ensures ran { HasBegun (S.stands session.old session.old) (S.means session.old) →
-        ReadThrough (S.means session.old)
+        ReadThrough (limits_of piece.old calls) (S.means session.old)
         (devices (R.state input.old) (W.state output.old) (N.state diagnostics.old))
         (devices (R.state input.new) (W.state output.new) (N.state diagnostics.new))
         (done_of effects.new) (S.rest session.new) result }
     ensures due { AreSmall (R.state input.old) → IsErrOf result Stopped.Read →
-        FailsWrittenOut R.state input.old input.new (done_of effects.new) }
+        FailsWrittenOut (length piece.old) R.state input.old input.new (done_of effects.new) }
 {
-    let mut piece = [0u8; READ_MAX];
-    for _turn in 0..READER_CALLS {
-        let Ok(n) = input.read(&mut piece) else {
+    for _turn in 0..calls {
+        let Ok(n) = input.read(piece) else {
             return Err(Stopped::Read);
         };
         if n == 0 {
@@ -92,7 +96,7 @@ fn read_through<S: Session, R: Input, W: Output, N: Output>(
         match session.take(&piece[..n], effects)? {
             Flow::Finished => return Ok(()),
             // a read that came short has emptied its pipe: the next may wait for a sender
-            Flow::Continue => flush_due(n < READ_MAX, effects, output, diagnostics)?,
+            Flow::Continue => flush_due(n < piece.len(), effects, output, diagnostics)?,
         }
     }
     Err(Stopped::Endless)
@@ -111,15 +115,26 @@ fn pump<S: Session, R: Input, W: Output, N: Output>(
     input: &mut R,
     output: &mut W,
     diagnostics: &mut N,
+    piece: &mut [u8],
+    calls: u64,
 ) -> Result<u8, Stopped>
+    requires { AreLawful (limits_of piece.old calls) }
     ensures { HasBegun (S.stands session.old session.old) (S.means session.old) →
-        Pumped (S.means session.old)
+        Pumped (limits_of piece.old calls) (S.means session.old)
         (devices (R.state input.old) (W.state output.old) (N.state diagnostics.old))
         (devices (R.state input.new) (W.state output.new) (N.state diagnostics.new))
         result }
 {
     let mut effects = Effects::new(alloc);
-    match read_through(session, input, output, diagnostics, &mut effects) {
+    match read_through(
+        session,
+        input,
+        output,
+        diagnostics,
+        &mut effects,
+        piece,
+        calls,
+    ) {
         Ok(()) => {
             flush(&mut effects, output, diagnostics)?;
             match session.write_rest(output) {
@@ -157,6 +172,29 @@ fn close<N: Output>(stopped: Stopped, diagnostics: &mut N) -> u8
     }
 }
 
+// Runs a session over devices, with room for what is read at once, and so many calls at most.
+fn run<S: Session, R: Input, W: Output, N: Output>(
+    alloc: Global,
+    session: &mut S,
+    input: &mut R,
+    output: &mut W,
+    diagnostics: &mut N,
+    piece: &mut [u8],
+    calls: u64,
+) -> u8
+    requires { AreLawful (limits_of piece.old calls) }
+    ensures { HasBegun (S.stands session.old session.old) (S.means session.old) →
+        RanWithin (limits_of piece.old calls) (S.means session.old)
+        (devices (R.state input.old) (W.state output.old) (N.state diagnostics.old))
+        (devices (R.state input.new) (W.state output.new) (N.state diagnostics.new))
+        result }
+{
+    match pump(alloc, session, input, output, diagnostics, piece, calls) {
+        Ok(status) => status,
+        Err(stopped) => close(stopped, diagnostics),
+    }
+}
+
 /// Runs a session over devices: reads the input to its end, or as far as the session needs it, and
 /// writes what comes of it. Returns the exit status: `DONE` if nothing was refused, else `REFUSED`;
 /// `FAULT` if a device failed or the input has no end; `NO_MEMORY` if memory ran out. After the
@@ -175,8 +213,41 @@ pub fn drive<S: Session, R: Input, W: Output, N: Output>(
         (devices (R.state input.new) (W.state output.new) (N.state diagnostics.new))
         result }
 {
-    match pump(alloc, session, input, output, diagnostics) {
-        Ok(status) => status,
-        Err(stopped) => close(stopped, diagnostics),
-    }
+    let mut piece = [0u8; READ_MAX];
+    run(
+        alloc,
+        session,
+        input,
+        output,
+        diagnostics,
+        &mut piece,
+        READER_CALLS,
+    )
+}
+
+/// Runs a session over devices, as [`drive`] does, over an input that may have any length: it is called
+/// at most `ENDLESS_CALLS` times, each time for what the room takes.
+pub fn drive_endless<S: Session, R: Input, W: Output, N: Output>(
+    alloc: Global,
+    room: &mut EndlessRoom,
+    session: &mut S,
+    input: &mut R,
+    output: &mut W,
+    diagnostics: &mut N,
+) -> u8
+    ensures { HasBegun (S.stands session.old session.old) (S.means session.old) →
+        RanWithin endless (S.means session.old)
+        (devices (R.state input.old) (W.state output.old) (N.state diagnostics.old))
+        (devices (R.state input.new) (W.state output.new) (N.state diagnostics.new))
+        result }
+{
+    run(
+        alloc,
+        session,
+        input,
+        output,
+        diagnostics,
+        room.piece.as_mut_slice(),
+        ENDLESS_CALLS,
+    )
 }

@@ -460,7 +460,7 @@ days_written tells total draft old new skipped all rest written none =
 
 -- ---- a day that has its share
 
-run_some : (run : List Entry) → 0 < length run → 0 < length (text_of run)
+pub run_some : (run : List Entry) → 0 < length run → 0 < length (text_of run)
 run_some [] some = some
 run_some (e ∷ es) some = omega (arith, text_some e, length-append (entry_text e) (text_of es))
 
@@ -473,7 +473,7 @@ share_of total len day first behind rest run left of counts share is =
     (share_whole total (length (text_of (first ∷ counts.front))) (subst (IsShare total) counts.len_is share))
 
 -- all that is left has one too
-share_of_all : (total len : ℕ) (day : List ℕ) (first : Entry) (behind rest : List Entry)
+pub share_of_all : (total len : ℕ) (day : List ℕ) (first : Entry) (behind rest : List Entry)
     → CountsDay len day first behind rest → IsShare total len → HasShare total (first ∷ behind)
 share_of_all total len day first behind rest counts share =
     omega (

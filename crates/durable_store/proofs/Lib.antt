@@ -8,3 +8,4 @@ pub mod Mixing
 pub mod Readable
 pub mod Recovered
 pub mod Runs
+pub mod Syncing

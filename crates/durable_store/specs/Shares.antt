@@ -1,6 +1,7 @@
 -- The days of a set, and which of them get a segment of their own.
-use Rattle.std.specs.Prelude.{◌≡◌, ℕ, ◌*◌, ◌<◌, ◌≤◌, List, [], ◌∷◌, ◌++◌, length}
+use Rattle.std.specs.Prelude.{◌≡◌, ℕ, ◌+◌, ◌*◌, ◌<◌, ◌≤◌, List, [], ◌∷◌, ◌++◌, length}
 use Rattle.std.specs.List.{AllByRecursion}
+use Rattle.disk.specs.Calls.{AtMostSyncs}
 use Rattle.disk.specs.States.{State}
 use Rattle.archive_digest.specs.Periods.{IsIn}
 use Rattle.archive_digest.specs.declared.period.Period.TheVariants.{Day}
@@ -8,6 +9,7 @@ use Rattle.archive_pages.specs.Paged.{at_most_all}
 use Rattle.archive_text.specs.Entries.{Entry}
 use Rattle.archive_text.specs.Text.{text_of}
 use Rattle.record_store.specs.Segments.{GrowsBeside}
+use Rattle.record_store.specs.declared.segment.TheConstants.{SEGMENT_SYNCS}
 
 -- so many octets are at least a 64th of all
 abbrev pub IsShare : ℕ → ℕ → Type 0
@@ -49,3 +51,11 @@ pub record GrowsBy (total octets : ℕ) (old new : State) : Type 0 where
   pub grow : GrowsBeside count old new
   pub shares : count * total ≤ 64 * octets
   pub some : count ≤ octets
+
+-- no more syncs are made than those of as many segments as the octets of these entries, up to the rest, allow, each of
+-- which has at least a 64th of all
+pub record SyncsAlong (total : ℕ) (these rest : List Entry) (before now : ℕ) : Type 0 where
+  pub count : ℕ
+  pub most : AtMostSyncs (count * SEGMENT_SYNCS) before now
+  pub shares : count * total + 64 * length (text_of rest) ≤ 64 * length (text_of these)
+  pub some : count + length (text_of rest) ≤ length (text_of these)

@@ -1,6 +1,7 @@
 //! A checkpoint.
 ghost use Rattle.std.specs.Prelude.{◌≡◌, ◌↔◌, [], IfErr, IsErr, OnErr, OnOk};
 ghost use Rattle.archive_pages.specs.Paged.{entries_in};
+ghost use Rattle.disk.specs.Calls.{AtMostSyncs};
 ghost use Rattle.record_store.specs.Stores.{AreAmong, IsBroken as IsStoreBroken, Sets};
 ghost use Rattle.record_store.specs.Segments.{SegmentsGrow, SegmentsStay};
 ghost use Rattle.record_store.specs.Stores.{Stands as JournalStands, number_of};
@@ -11,11 +12,14 @@ ghost use Rattle.durable_store.specs.Durables.{IsBroken, Stands, entries_of, jou
 use crate::DurableStore;
 use crate::draft::DraftName;
 use crate::fault::CheckpointFault;
-use crate::mixed::write_segments;
+use crate::mixed::{SET_SYNCS, write_segments};
 use archive_pages::PagedArchive;
 use disk::Disk;
-use record_store::{RecordStore, StoreFault};
+use record_store::{RecordStore, StoreFault, TURN_SYNCS};
 use std::alloc::Global;
+
+/// How many syncs a checkpoint makes at most: those of its segments, and those of the new journal. They are 132.
+pub const CHECKPOINT_SYNCS: u64 = SET_SYNCS + TURN_SYNCS;
 
 // Writes the segments, and then begins a new journal.
 fn write_out<D: Disk>(
@@ -38,6 +42,7 @@ fn write_out<D: Disk>(
         → StandsWith store.old (D.state disk.old) (entries_in set.now)
         → ShedsOldest 64 (D.state disk.old) (D.state disk.new) (number_of store.old)) }
     ensures whole { OnOk result (¬ (IsStoreBroken store.new)) }
+    ensures syncs { AtMostSyncs CHECKPOINT_SYNCS (D.syncs disk.old) (D.syncs disk.new) }
     ensures told { D.tells disk.new → D.tells disk.old }
     ensures cause { IfErr result (IsCheckpointCause (D.tells disk.new) (D.has_failed disk.new)
         (StandsWith store.old (D.state disk.old) (entries_in set.now)) store.old (D.state disk.new)) }
@@ -90,6 +95,7 @@ impl DurableStore {
         ensures empty { OnOk result (entries_of self.new ≡ []) }
         ensures same { OnErr result (entries_of self.new ≡ entries_of self.old) }
         ensures breaks { IsErr result ↔ IsBroken self.new }
+        ensures syncs { AtMostSyncs CHECKPOINT_SYNCS (D.syncs disk.old) (D.syncs disk.new) }
         ensures told { D.tells disk.new → D.tells disk.old }
         ensures cause { IfErr result (IsCheckpointCause (D.tells disk.new) (D.has_failed disk.new)
             (StandsAtAll self.old (D.state disk.old)) (journal_store self.old) (D.state disk.new)) }

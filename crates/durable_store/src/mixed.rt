@@ -2,9 +2,11 @@
 ghost use Rattle.std.specs.Prelude.{◌≡◌, ◌∷◌, [], IfErr, IfOk, List, ℕ, OnOk};
 ghost use Rattle.archive_pages.specs.Paged.{entries_from, entries_in};
 ghost use Rattle.archive_text.specs.EntryViews.{entry_of};
+ghost use Rattle.disk.specs.Calls.{AtMostSyncs};
 ghost use Rattle.journal.specs.Journals.{IsSound};
 ghost use Rattle.record_store.specs.Crashes.{HeldApart};
 ghost use Rattle.record_store.specs.Segments.{Drafts, GrowsBeside, draft_of};
+ghost use Rattle.record_store.specs.declared.segment.TheConstants.{SEGMENT_SYNCS};
 ghost use Rattle.durable_store.specs.Causes.{IsKeepingCause};
 ghost use Rattle.durable_store.specs.Segments.{DraftsMixed, GainsOnly, KeepsAside, MixesDay, PutsMixed};
 ghost use Rattle.durable_store.specs.Segments.{WritesMixed, octets_of};
@@ -15,11 +17,14 @@ use crate::shares::{day_len, day_of, is_share, set_len};
 use archive_pages::{PagedArchive, Place};
 use archive_text::EntryView;
 use disk::Disk;
-use record_store::{KeepFault, SegmentDraft};
+use record_store::{KeepFault, SEGMENT_SYNCS, SegmentDraft};
 use std::alloc::Global;
 
 // what the name of the segment of several days begins with
 const MIXED: &[u8] = b"mixed";
+
+/// How many syncs the segments of a set take at most: those of 65.
+pub const SET_SYNCS: u64 = 65 * SEGMENT_SYNCS;
 
 // Puts the day of an entry into a draft, or holds some back, unless the day has its share of all
 // octets. Gives the place behind the day.
@@ -39,6 +44,7 @@ fn mix_day<D: Disk>(
     ensures aside { D.tells disk.new
         → KeepsAside (D.state disk.old) (D.state disk.new) (draft_of draft.old) }
     ensures name { draft_of draft.new ≡ draft_of draft.old }
+    ensures syncs { AtMostSyncs 0 (D.syncs disk.old) (D.syncs disk.new) }
     ensures told { D.tells disk.new → D.tells disk.old }
     ensures cause { IfErr result (IsKeepingCause (D.tells disk.new) (D.has_failed disk.new)
         ((text : List ℕ) × Drafts draft.old (D.state disk.old) text) (D.state disk.new)) }
@@ -64,6 +70,7 @@ fn put_mixed<D: Disk>(
     ensures aside { D.tells disk.new
         → KeepsAside (D.state disk.old) (D.state disk.new) (draft_of draft.old) }
     ensures name { draft_of draft.new ≡ draft_of draft.old }
+    ensures syncs { AtMostSyncs 0 (D.syncs disk.old) (D.syncs disk.new) }
     ensures told { D.tells disk.new → D.tells disk.old }
     ensures cause { IfErr result (IsKeepingCause (D.tells disk.new) (D.has_failed disk.new)
         (Drafts draft.old (D.state disk.old) []) (D.state disk.new)) }
@@ -89,6 +96,7 @@ fn draft_mixed<D: Disk>(
         (D.state disk.new) (octets_of name) draft (entries_in set.now)) }
     ensures aside { D.tells disk.new
         → KeepsAside (D.state disk.old) (D.state disk.new) (octets_of name) }
+    ensures syncs { AtMostSyncs 0 (D.syncs disk.old) (D.syncs disk.new) }
     ensures told { D.tells disk.new → D.tells disk.old }
     ensures cause { IfErr result (IsKeepingCause (D.tells disk.new) (D.has_failed disk.new)
         (IsSound (D.state disk.old)) (D.state disk.new)) }
@@ -115,6 +123,7 @@ fn write_mixed<D: Disk>(
     ensures segments { D.tells disk.new → IsSound (D.state disk.old)
         → GrowsBeside 1 (D.state disk.old) (D.state disk.new) }
 
+    ensures syncs { AtMostSyncs SEGMENT_SYNCS (D.syncs disk.old) (D.syncs disk.new) }
     ensures told { D.tells disk.new → D.tells disk.old }
     ensures cause { IfErr result (IsKeepingCause (D.tells disk.new) (D.has_failed disk.new)
         (IsSound (D.state disk.old)) (D.state disk.new)) }
@@ -140,6 +149,7 @@ fn write_both<D: Disk>(
     ensures segments { D.tells disk.new → IsSound (D.state disk.old)
         → GrowsBeside 65 (D.state disk.old) (D.state disk.new) }
 
+    ensures syncs { AtMostSyncs SET_SYNCS (D.syncs disk.old) (D.syncs disk.new) }
     ensures told { D.tells disk.new → D.tells disk.old }
     ensures cause { IfErr result (IsKeepingCause (D.tells disk.new) (D.has_failed disk.new)
         (IsSound (D.state disk.old)) (D.state disk.new)) }
@@ -155,6 +165,7 @@ fn write_both<D: Disk>(
 fn drop_draft<D: Disk>(alloc: Global, disk: &mut D, name: DraftName)
     ensures aside { D.tells disk.new
         → KeepsAside (D.state disk.old) (D.state disk.new) (octets_of name) }
+    ensures syncs { AtMostSyncs 0 (D.syncs disk.old) (D.syncs disk.new) }
     ensures told { D.tells disk.new → D.tells disk.old }
     ensures failed { D.has_failed disk.old → D.has_failed disk.new }
 {
@@ -191,6 +202,7 @@ pub fn write_segments<D: Disk>(
     ensures segments { D.tells disk.new → IsSound (D.state disk.old)
         → GrowsBeside 65 (D.state disk.old) (D.state disk.new) }
 
+    ensures syncs { AtMostSyncs SET_SYNCS (D.syncs disk.old) (D.syncs disk.new) }
     ensures told { D.tells disk.new → D.tells disk.old }
     ensures cause { IfErr result (IsKeepingCause (D.tells disk.new) (D.has_failed disk.new)
         (IsSound (D.state disk.old)) (D.state disk.new)) }

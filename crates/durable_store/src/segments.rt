@@ -8,12 +8,14 @@ ghost use Rattle.archive_digest.specs.declared.period.Period.TheVariants.{Day as
 ghost use Rattle.archive_pages.specs.Paged.{entries_from, entries_in};
 ghost use Rattle.archive_text.specs.EntryViews.{entry_of};
 ghost use Rattle.archive_text.specs.Text.{text_of};
+ghost use Rattle.disk.specs.Calls.{AtMostSyncs};
 ghost use Rattle.journal.specs.Journals.{IsSound};
 ghost use Rattle.record_store.specs.Segments.{Drafts, GrowsBeside, draft_of};
+ghost use Rattle.record_store.specs.declared.segment.TheConstants.{SEGMENT_SYNCS};
 ghost use Rattle.durable_store.specs.Causes.{IsKeepingCause};
 ghost use Rattle.durable_store.specs.Segments.{DraftsDay, GainsAmong, GainsOnly, KeepsAside, Puts, PutsDay};
 ghost use Rattle.durable_store.specs.Segments.{PutsEntries, WritesDay, WritesDays, WritesShare, octets_of};
-ghost use Rattle.durable_store.specs.Shares.{GrowsBy};
+ghost use Rattle.durable_store.specs.Shares.{GrowsBy, SyncsAlong};
 
 use crate::draft::DraftName;
 use crate::shares::{day_len, day_of, is_share, next_of};
@@ -49,6 +51,7 @@ fn put_entry<D: Disk>(
     ensures aside { D.tells disk.new
         → KeepsAside (D.state disk.old) (D.state disk.new) (draft_of draft.old) }
     ensures name { draft_of draft.new ≡ draft_of draft.old }
+    ensures syncs { AtMostSyncs 0 (D.syncs disk.old) (D.syncs disk.new) }
     ensures told { D.tells disk.new → D.tells disk.old }
     ensures cause { IfErr result (IsKeepingCause (D.tells disk.new) (D.has_failed disk.new)
         ((text : List ℕ) × Drafts draft.old (D.state disk.old) text) (D.state disk.new)) }
@@ -78,6 +81,7 @@ pub(crate) fn put_entries<D: Disk>(
     ensures aside { D.tells disk.new
         → KeepsAside (D.state disk.old) (D.state disk.new) (draft_of draft.old) }
     ensures name { draft_of draft.new ≡ draft_of draft.old }
+    ensures syncs { AtMostSyncs 0 (D.syncs disk.old) (D.syncs disk.new) }
     ensures told { D.tells disk.new → D.tells disk.old }
     ensures cause { IfErr result (IsKeepingCause (D.tells disk.new) (D.has_failed disk.new)
         ((text : List ℕ) × Drafts draft.old (D.state disk.old) text) (D.state disk.new)) }
@@ -108,6 +112,7 @@ fn put_day<D: Disk>(
     ensures aside { D.tells disk.new
         → KeepsAside (D.state disk.old) (D.state disk.new) (draft_of draft.old) }
     ensures name { draft_of draft.new ≡ draft_of draft.old }
+    ensures syncs { AtMostSyncs 0 (D.syncs disk.old) (D.syncs disk.new) }
     ensures told { D.tells disk.new → D.tells disk.old }
     ensures cause { IfErr result (IsKeepingCause (D.tells disk.new) (D.has_failed disk.new)
         (Drafts draft.old (D.state disk.old) []) (D.state disk.new)) }
@@ -135,6 +140,7 @@ fn draft_day<D: Disk>(
         (entries_from set.now r.1)) }
     ensures aside { D.tells disk.new
         → KeepsAside (D.state disk.old) (D.state disk.new) (octets_of name) }
+    ensures syncs { AtMostSyncs 0 (D.syncs disk.old) (D.syncs disk.new) }
     ensures told { D.tells disk.new → D.tells disk.old }
     ensures cause { IfErr result (IsKeepingCause (D.tells disk.new) (D.has_failed disk.new)
         (IsSound (D.state disk.old)) (D.state disk.new)) }
@@ -166,6 +172,7 @@ fn write_day<D: Disk>(
     ensures segments { D.tells disk.new → IsSound (D.state disk.old)
         → GrowsBeside 1 (D.state disk.old) (D.state disk.new) }
 
+    ensures syncs { AtMostSyncs SEGMENT_SYNCS (D.syncs disk.old) (D.syncs disk.new) }
     ensures told { D.tells disk.new → D.tells disk.old }
     ensures cause { IfErr result (IsKeepingCause (D.tells disk.new) (D.has_failed disk.new)
         (IsSound (D.state disk.old)) (D.state disk.new)) }
@@ -197,6 +204,10 @@ fn write_share<D: Disk>(
         (length (text_of (entry_of first.now ∷ entries_from set.now behind)))
         (D.state disk.old) (D.state disk.new) }
 
+    ensures syncs { SyncsAlong total (entry_of first.now ∷ entries_from set.now behind) []
+        (D.syncs disk.old) (D.syncs disk.new) }
+    ensures along { IfOk result (λ r. SyncsAlong total (entry_of first.now ∷ entries_from set.now behind)
+        (entries_from set.now r.1) (D.syncs disk.old) (D.syncs disk.new)) }
     ensures told { D.tells disk.new → D.tells disk.old }
     ensures cause { IfErr result (IsKeepingCause (D.tells disk.new) (D.has_failed disk.new)
         (IsSound (D.state disk.old)) (D.state disk.new)) }
@@ -234,6 +245,7 @@ pub(crate) fn write_days<D: Disk>(
     ensures grows { D.tells disk.new → IsSound (D.state disk.old) → GrowsBy total
         (length (text_of (entries_in set.now))) (D.state disk.old) (D.state disk.new) }
 
+    ensures syncs { SyncsAlong total (entries_in set.now) [] (D.syncs disk.old) (D.syncs disk.new) }
     ensures told { D.tells disk.new → D.tells disk.old }
     ensures cause { IfErr result (IsKeepingCause (D.tells disk.new) (D.has_failed disk.new)
         (IsSound (D.state disk.old)) (D.state disk.new)) }

@@ -1,13 +1,14 @@
 //! A durable store.
 ghost use Rattle.std.specs.Prelude.{◌≡◌, ◌↔◌, [], List, IfErr, IfOk, IsErr, IsTrue, OnErr, OnOk, length};
-ghost use Rattle.disk.specs.Calls.{IsUnchanged};
+ghost use Rattle.disk.specs.Calls.{AtMostSyncs, IsUnchanged};
 ghost use Rattle.disk.specs.States.{State};
 ghost use Rattle.journal.specs.Batches.{batches_text};
 ghost use Rattle.journal.specs.Journals.{IsSound};
+ghost use Rattle.journal.specs.declared.journal.TheConstants.{COMMIT_SYNCS};
 ghost use Rattle.archive_text.specs.Entries.{Entry};
-ghost use Rattle.record_store.specs.Causes.{IsCause, commit_causes, opening_causes};
+ghost use Rattle.record_store.specs.Causes.{IsCause, TellsNumber, commit_causes, opening_causes};
 ghost use Rattle.record_store.specs.Crashes.{Keeps};
-ghost use Rattle.record_store.specs.Stores.{IsReady, Sets, all_committed, begun};
+ghost use Rattle.record_store.specs.Stores.{IsReady, Sets, all_committed, begun, number_of};
 ghost use Rattle.durable_store.specs.Asides.{SetsTailsAside, asides_of};
 ghost use Rattle.durable_store.specs.Causes.{IsDamage, IsOpeningCause};
 ghost use Rattle.durable_store.specs.Durables.{IsBroken, Recovers, Stands, entries_of, journal_store, waiting_of};
@@ -111,9 +112,11 @@ impl DurableStore {
         ensures same { entries_of self.new ≡ entries_of self.old }
         ensures idle { waiting_of self.old ≡ [] → disk.new ≡ disk.old }
         ensures breaks { IsErr result ↔ IsBroken self.new }
+        ensures syncs { AtMostSyncs COMMIT_SYNCS (D.syncs disk.old) (D.syncs disk.new) }
         ensures told { D.tells disk.new → D.tells disk.old }
         ensures cause { IfErr result (IsCause (commit_causes (D.tells disk.new) (D.has_failed disk.new)
             (journal_store self.old) (D.state disk.old))) }
+        ensures number { IfErr result (TellsNumber (number_of (journal_store self.old))) }
     {
         self.store.commit(alloc, disk)
     }

@@ -1,18 +1,64 @@
-//! Two archives are merged.
+//! Two archives are merged; records are selected from one, and it is digested.
+
+ghost use Rattle.std.specs.Prelude.{IfOk};
+ghost use Rattle.archive_sets.specs.Fields.{IsAsSevere, IsOfRecord};
+ghost use Rattle.archive_digest.specs.declared.period.Period.TheVariants.{Day};
+ghost use Rattle.examples.specs.Shown.{IsDigestText, IsSelectedText, IsUnionText};
 
 use std::alloc::Global;
-use syslog::{FromRead, MergeFault, ToWrite, merge_streams};
+use syslog::{
+    AsSevereAs, DigestFault, FromRead, MergeFault, Period, SelectFault, Severity, ToWrite,
+    digest_stream, merge_streams, select_stream,
+};
 
 /// The text of the union of two archives.
 ///
 /// # Errors
 /// A text is no archive, for a reason that names its side; or out of memory.
-pub fn union_of(alloc: Global, left: &[u8], right: &[u8]) -> Result<Vec<u8>, MergeFault> {
+pub fn union_of(alloc: Global, left: &[u8], right: &[u8]) -> Result<Vec<u8>, MergeFault>
+    // that of the records that one of them has
+    ensures { IfOk result (λ v. IsUnionText left.now right.now v.items) }
+{
     let mut union = ToWrite::new(Vec::new(alloc));
-    let mut left = FromRead::new(left);
-    let mut right = FromRead::new(right);
-    merge_streams(alloc, &mut left, &mut right, &mut union)?;
-    Ok(union.into_inner())
+    let mut left_reader = FromRead::new(left);
+    let mut right_reader = FromRead::new(right);
+    match merge_streams(alloc, &mut left_reader, &mut right_reader, &mut union) {
+        Ok(_count) => Ok(union.into_inner()),
+        Err(fault) => Err(fault),
+    }
+}
+
+/// The archive of the records that are as severe as this, or more severe.
+///
+/// # Errors
+/// The text is no archive, or out of memory.
+pub fn severe(alloc: Global, archive: &[u8], severity: Severity) -> Result<Vec<u8>, SelectFault>
+    // that of all of them, and of no others
+    ensures { IfOk result (λ v. IsSelectedText (λ e. IsOfRecord (IsAsSevere severity) e.octets)
+        archive.now v.items) }
+{
+    let mut selected = ToWrite::new(Vec::new(alloc));
+    let mut reader = FromRead::new(archive);
+    match select_stream(alloc, &AsSevereAs { severity }, &mut reader, &mut selected) {
+        Ok(_count) => Ok(selected.into_inner()),
+        Err(fault) => Err(fault),
+    }
+}
+
+/// The digest of an archive, a line for each day that has records.
+///
+/// # Errors
+/// The text is no archive, or out of memory.
+pub fn daily(alloc: Global, archive: &[u8]) -> Result<Vec<u8>, DigestFault>
+    // the lines of its days
+    ensures { IfOk result (λ v. IsDigestText Day archive.now v.items) }
+{
+    let mut digest = ToWrite::new(Vec::new(alloc));
+    let mut reader = FromRead::new(archive);
+    match digest_stream(alloc, Period::Day, &mut reader, &mut digest) {
+        Ok(_count) => Ok(digest.into_inner()),
+        Err(fault) => Err(fault),
+    }
 }
 
 #[cfg(test)]
@@ -44,6 +90,24 @@ mod tests {
         let right = archive(alloc, [TWO, ONE].as_slice())?;
         let both = archive(alloc, [ONE, TWO].as_slice())?;
         assert!(rt; union_of(alloc, left.as_slice(), right.as_slice())? == both);
+        Ok(())
+    }
+
+    #[test]
+    fn the_severe_ones_are_selected(rt: HostRuntime) -> Result<(), Fail> {
+        let alloc = rt.alloc();
+        let all = archive(alloc, [ONE, TWO].as_slice())?;
+        assert!(rt; severe(alloc, all.as_slice(), Severity::Informational)? == all);
+        assert!(rt; severe(alloc, all.as_slice(), Severity::Error)?.is_empty());
+        Ok(())
+    }
+
+    #[test]
+    fn a_day_has_a_line(rt: HostRuntime) -> Result<(), Fail> {
+        let alloc = rt.alloc();
+        let all = archive(alloc, [ONE, TWO].as_slice())?;
+        let lines = daily(alloc, all.as_slice())?;
+        assert!(rt; lines.as_slice().starts_with(b"2024-02-29 2 "));
         Ok(())
     }
 

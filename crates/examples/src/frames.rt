@@ -1,7 +1,33 @@
 //! The octets of a stream are read as frames, in whatever pieces they come.
 
+ghost use Rattle.std.specs.Prelude.{IfOk, IfSome};
+ghost use Rattle.examples.specs.Shown.{IsFirstFrame};
+
 use std::alloc::{AllocError, Global};
 use syslog::{Framing, Ready, Scanner, Severity, view};
+
+/// The octets of the first frame of a stream (RFC 6587) that begins with a piece; None if that has no whole frame,
+/// or one that is too long.
+///
+/// # Errors
+/// Out of memory.
+pub fn first_frame(
+    alloc: Global,
+    framing: Framing,
+    piece: &[u8],
+) -> Result<Option<Vec<u8>>, AllocError>
+    // those of a frame that the stream begins with
+    ensures { IfOk result (λ found. IfSome found (λ v. IsFirstFrame framing piece.now v.items)) }
+{
+    let mut scanner = Scanner::new(alloc, framing)?;
+    let Ok(_used) = scanner.push(piece) else {
+        return Ok(None);
+    };
+    match scanner.ready() {
+        Some(Ready::Frame(frame)) => Ok(Some(frame.to_vec(alloc)?)),
+        _ => Ok(None),
+    }
+}
 
 /// The most severe of the records in a stream (RFC 6587) that comes in these pieces; None if it has
 /// no record.
@@ -59,6 +85,13 @@ fn severer(left: Option<Severity>, right: Option<Severity>) -> Option<Severity> 
 mod tests {
     use super::*;
     use std::test::Fail;
+
+    #[test]
+    fn the_first_frame_is_found(rt: HostRuntime) -> Result<(), Fail> {
+        let found = first_frame(rt.alloc(), Framing::Lf, b"one\ntwo\n".as_slice())?;
+        assert_eq!(rt; found.ok_or("a frame")?.as_slice(), b"one".as_slice());
+        Ok(())
+    }
 
     #[test]
     fn a_frame_may_be_cut_anywhere(rt: HostRuntime) -> Result<(), Fail> {

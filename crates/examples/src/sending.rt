@@ -1,5 +1,8 @@
 //! A record is sent.
 
+ghost use Rattle.std.specs.Prelude.{◌↔◌, IfOk, IsTrue};
+ghost use Rattle.syslog_sender.specs.Senders.{LetsThrough};
+
 use std::alloc::Global;
 use syslog::{
     Facility, Framing, Message, Output, Priority, SendFault, Sender, Severity, StructuredData,
@@ -15,7 +18,10 @@ pub fn notice<W: Output>(
     sender: &Sender,
     message: &Message,
     output: &mut W,
-) -> Result<bool, SendFault> {
+) -> Result<bool, SendFault>
+    // whether the mask lets through a notice of the facility `user`, whose PRI is 13
+    ensures { IfOk result (λ sent. IsTrue sent ↔ LetsThrough sender.now.mask 13) }
+{
     let priority = Priority::new(Facility::User, Severity::Notice);
     let data = StructuredData::empty(alloc);
     sender.send(

@@ -17,9 +17,9 @@ use std::{fs, io};
 
 /// A disk over a folder of the system's files.
 ///
-/// Where it holds a lock, nothing is made, renamed, removed or synced once the lock's file has lost its
-/// name, as where the folder was moved or removed: the disk has failed then. So has it where a file that
-/// is to be synced has lost its own.
+/// Where it holds a lock, nothing is changed or synced once the lock's file has lost its name, as where
+/// the folder was moved or the file removed: another process may hold the folder by then. The disk has
+/// failed in that case, and so it has where a file that is to be synced has lost its own name.
 ///
 /// A file that was written stays open until it has been synced, and mostly longer: a commit opens
 /// none. Nobody else may write, rename or remove the files that are written through it; others may
@@ -260,6 +260,8 @@ impl<R: Files + AllocGlobal + Clone + Drop> Disk for FolderDisk<R> {
 
     ghost has_failed = { λ disk. IsSome disk.last_error };
 
+    ghost syncs = { λ _. 0 };
+
     fn names(&mut self, alloc: Global) -> Result<Vec<FileName>, DiskFault> {
         let answer = self.files.names(alloc);
         self.told(Target::Folder, None, answer)
@@ -277,16 +279,19 @@ impl<R: Files + AllocGlobal + Clone + Drop> Disk for FolderDisk<R> {
     }
 
     fn append(&mut self, name: &FileName, octets: &[u8]) -> Result<(), DiskFault> {
+        self.check_lock()?;
         let answer = self.files.append(name, octets);
         self.told(Target::File, Some(name), answer)
     }
 
     fn overwrite(&mut self, name: &FileName, at: u64, octet: u8) -> Result<(), DiskFault> {
+        self.check_lock()?;
         let answer = self.files.overwrite(name, at, octet);
         self.told(Target::File, Some(name), answer)
     }
 
     fn cut(&mut self, name: &FileName, len: u64) -> Result<(), DiskFault> {
+        self.check_lock()?;
         let answer = self.files.cut(name, len);
         self.told(Target::File, Some(name), answer)
     }

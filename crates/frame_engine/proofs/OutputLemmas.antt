@@ -7,8 +7,6 @@ use Rattle.syslog_value.proofs.Tables.{severity_code-lt, facility_once, severity
 use Rattle.syslog_value.specs.Facilities.{facility_code}
 use Rattle.syslog_value.specs.Severities.{severity_code}
 use Rattle.syslog_value.specs.Parts.{Parts}
-use Rattle.syslog_value.specs.declared.facility.TheConstants.Facility as facilities
-use Rattle.syslog_value.specs.declared.severity.TheConstants.Severity as severities
 use Rattle.syslog_legacy.specs.declared.frame_reading.FrameReading.{FrameReading}
 use Rattle.frame_engine.specs.Checked.{check_handling}
 use Rattle.driver.specs.Effects.{Done}

@@ -140,6 +140,12 @@ part_of_bad D S kind stream number at total bad =
 pub nothing_part : (D : Handling) (kind : Framing) → HasPart D kind [] nothing
 nothing_part D kind = record { frames = []; rest = []; whole = refl; each = tt; handled = refl }
 
+-- nothing came of no octets
+pub nothing_begun : (D : Handling) (T : Line → Done) (framing : InputFraming)
+    → (input_meaning D T framing).so_far [] nothing × (input_meaning D T framing).part [] nothing
+nothing_begun D T Datagram = (refl, refl)
+nothing_begun D T (Stream kind) = (nothing_goes_on D kind, nothing_part D kind)
+
 -- ---- an input has one output
 
 one_offset : (kind : Framing) (b : List ℕ) (n m : ℕ) → IsFaultOffset (Whole kind) b n → IsFaultOffset (Whole kind) b m

@@ -1,7 +1,8 @@
 //! What a command does with the frames of its input: frames are cut from it, each is handled in turn,
 //! and what comes of them is written by the driver.
 //!
-//! [`scan_input`] is the engine. The handlers [`Check`], [`CheckSummary`], [`Convert`], [`Show`] and [`ShowJson`]
+//! [`scan_input`] is the engine, and [`scan_source`] the same for
+//! an input of any length. The handlers [`Check`], [`CheckSummary`], [`Convert`], [`Show`] and [`ShowJson`]
 //! say what is done with a frame, [`InputFraming`] how records are delimited in the input.
 #![tactic(auto)]
 
@@ -30,7 +31,7 @@ pub use frame_handler::FrameHandler;
 pub use input_framing::InputFraming;
 pub use line::{Line, put_line};
 pub use reading::{Reading, read_frame};
-pub use scan::scan_input;
+pub use scan::{FrameSource, scan_input, scan_source};
 pub use show::Show;
 pub use show_json::ShowJson;
 pub use stream::{end_line, feed};

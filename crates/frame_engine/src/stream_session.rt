@@ -8,13 +8,10 @@ use crate::closing::close_frames;
 use crate::frame_handler::FrameHandler;
 use crate::line::Line;
 use crate::stream::{end_line, feed};
-use driver::{Effects, Flow, Session};
-use octet_devices::{Output, READ_MAX, READER_CALLS, WriteFault};
+use driver::{Effects, Flow, INPUT_MAX, Session};
+use octet_devices::{Output, WriteFault};
 use std::alloc::{AllocError, Global};
 use syslog_frame::{Framing, POSITION_MAX, Scanner};
-
-// the most octets of a stream
-const STREAM_MAX: u64 = READ_MAX as u64 * READER_CALLS;
 
 /// A stream whose frames a handler is given in order. It ends at a bad MSG-LEN, or where its input
 /// ends.
@@ -51,7 +48,7 @@ impl<D: FrameHandler + Drop> StreamSession<D> {
             handler,
             scanner,
             number: 1,
-            room: STREAM_MAX,
+            room: INPUT_MAX,
             is_finished: false,
         })
     }

@@ -1,6 +1,7 @@
 //! A journal that is written.
 ghost use Rattle.std.specs.Prelude.{◌≡◌, ◌⊎◌, ◌^◌, ◌<◌, ◌≤◌, ◌++◌, ◌∷◌, [], length, List, ℕ};
 ghost use Rattle.std.specs.Prelude.{IfOk, IsErrOf, IsNone, IsSome, None, OnOk};
+ghost use Rattle.disk.specs.Calls.{AtMostSyncs};
 ghost use Rattle.disk.specs.Memory.{shown_now};
 ghost use Rattle.journal.specs.Batches.{closed_batch};
 
@@ -12,6 +13,12 @@ pub const LENGTH_MAX: u64 = 1 << 62;
 
 /// How many octets a batch has at most.
 pub const BODY_MAX: usize = u32::MAX as usize;
+
+/// How many syncs the making of a journal takes at most: of its file and of the folder.
+pub const CREATE_SYNCS: u64 = 2;
+
+/// How many syncs a commit makes at most: of the batch before it is opened, and once it is.
+pub const COMMIT_SYNCS: u64 = 2;
 
 // what opens a batch, and what stands in its place before
 const OPEN: u8 = 1;
@@ -62,6 +69,7 @@ impl Journal {
             → SettlesOthers (D.state disk.old) (D.state disk.new) name) }
         ensures shows { D.tells disk.new → shown_now ((D.state disk.old).entries name) ≡ None
             → ShowsNoBatch (D.state disk.new) name }
+        ensures syncs { AtMostSyncs CREATE_SYNCS (D.syncs disk.old) (D.syncs disk.new) }
 
         ensures told { D.tells disk.new → D.tells disk.old }
         ensures failed { IsErrOf result DiskFault.Failed → D.has_failed disk.new }
@@ -108,6 +116,7 @@ impl Journal {
             (WithOrWithout bodies body.now) }
         ensures others { D.tells disk.new
             → KeepsOthers (D.state disk.old) (D.state disk.new) (name_of self.old) }
+        ensures syncs { AtMostSyncs COMMIT_SYNCS (D.syncs disk.old) (D.syncs disk.new) }
 
         ensures name { name_of self.new ≡ name_of self.old }
         ensures told { D.tells disk.new → D.tells disk.old }

@@ -72,6 +72,15 @@ pub const SUMMARY: OptionRow = OptionRow {
     help: "At the end, print how many packets were legacy, and how many of these had no time or no host",
 };
 
+/// `--endless` of `check`, `show` and `convert`.
+pub const ENDLESS: OptionRow = OptionRow {
+    name: "endless",
+    form: Form::Flag,
+    value: "",
+    kind: Kind::Text,
+    help: "Read an input of any length, which otherwise may have at most 4 GiB",
+};
+
 /// `--to` of `convert`.
 pub const OUTPUT_FRAMING: OptionRow = OptionRow {
     name: "to",

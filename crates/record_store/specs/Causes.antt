@@ -68,6 +68,14 @@ TellsFull (Folder fault) = fault ≡ Full
 TellsFull (LastNumber number) = ⊥
 TellsFull No_memory = ⊥
 
+-- a fault of a journal is told of this number
+abbrev pub TellsNumber : ℕ → StoreFault → Type 0
+TellsNumber n Broken = Unit {0}
+TellsNumber n (Journal number fault) = number ≡ n
+TellsNumber n (Folder fault) = Unit {0}
+TellsNumber n (LastNumber number) = Unit {0}
+TellsNumber n No_memory = Unit {0}
+
 -- a journal that is shown is too long to be opened
 pub record ShowsTooLong (state : State) : Type 0 where
   pub number : ℕ

@@ -1,12 +1,13 @@
 //! A segment is kept under its name, whatever is there already.
 ghost use Rattle.std.specs.Prelude.{◌≡◌, ◌≢◌, ◌^◌, ◌<◌, ◌≤◌, ◌⊎◌, IfErr, IfOk, IfSome, IsErr, IsErrOf, IsNone};
 ghost use Rattle.std.specs.Prelude.{IsSome, IsTrue, List, ℕ, None, OnOk};
-ghost use Rattle.disk.specs.Calls.{IsUnchanged};
+ghost use Rattle.disk.specs.Calls.{AtMostSyncs, IsUnchanged};
 ghost use Rattle.disk.specs.Files.{File};
 ghost use Rattle.disk.specs.Memory.{shown_now};
 ghost use Rattle.journal.specs.Journals.{IsOnDisk, IsSound, Shows};
 ghost use Rattle.record_store.specs.Keeping.{AgreeAt, AreOther, AreSame, Brings, DifferAt, ShowsAtMost};
 ghost use Rattle.record_store.specs.Names.{IsSegment};
+ghost use Rattle.record_store.specs.declared.segment.TheConstants.{SEGMENT_SYNCS};
 
 use crate::RecordStore;
 use crate::segment::{SegmentDraft, hexadecimal, name_of_segment, place};
@@ -72,6 +73,7 @@ fn compare_at<D: Disk>(
         → DifferAt (D.state disk.old) one.now other.now) }
     ensures within { IfOk result (λ found. IfSome found (λ n. n ≤ PIECE)) }
     ensures same { D.tells disk.new → IsUnchanged (D.state disk.old) (D.state disk.new) }
+    ensures syncs { AtMostSyncs 0 (D.syncs disk.old) (D.syncs disk.new) }
     ensures told { D.tells disk.new → D.tells disk.old }
     ensures failed { IsErrOf result DiskFault.Failed → D.has_failed disk.new }
     ensures full { IsErrOf result DiskFault.Full → D.has_failed disk.new }
@@ -104,6 +106,7 @@ fn are_same<D: Disk>(disk: &mut D, one: &FileName, other: &FileName) -> Result<b
     ensures other_octets { IfOk result (λ same. IsTrue same ⊎ (D.tells disk.new
         → AreOther (D.state disk.old) one.now other.now)) }
     ensures same { D.tells disk.new → IsUnchanged (D.state disk.old) (D.state disk.new) }
+    ensures syncs { AtMostSyncs 0 (D.syncs disk.old) (D.syncs disk.new) }
     ensures told { D.tells disk.new → D.tells disk.old }
     ensures failed { IsErrOf result DiskFault.Failed → D.has_failed disk.new }
     ensures full { IsErrOf result DiskFault.Full → D.has_failed disk.new }
@@ -132,6 +135,7 @@ fn is_there<D: Disk>(disk: &mut D, name: &FileName) -> Result<bool, DiskFault>
     ensures some { IfOk result (λ there. IsTrue there → D.tells disk.new
         → IsSound (D.state disk.old) → IsSome ((D.state disk.old).entries name.now).now) }
     ensures same { D.tells disk.new → IsUnchanged (D.state disk.old) (D.state disk.new) }
+    ensures syncs { AtMostSyncs 0 (D.syncs disk.old) (D.syncs disk.new) }
     ensures told { D.tells disk.new → D.tells disk.old }
     ensures failed { IsErrOf result DiskFault.Failed → D.has_failed disk.new }
     ensures full { IsErrOf result DiskFault.Full → D.has_failed disk.new }
@@ -153,6 +157,7 @@ fn may_take<D: Disk>(disk: &mut D, draft: &FileName, name: &FileName) -> Result<
     ensures other_octets { IfOk result (λ may. IsTrue may ⊎ (D.tells disk.new
         → AreOther (D.state disk.old) draft.now name.now)) }
     ensures same { D.tells disk.new → IsUnchanged (D.state disk.old) (D.state disk.new) }
+    ensures syncs { AtMostSyncs 0 (D.syncs disk.old) (D.syncs disk.new) }
     ensures told { D.tells disk.new → D.tells disk.old }
     ensures failed { IsErrOf result DiskFault.Failed → D.has_failed disk.new }
     ensures full { IsErrOf result DiskFault.Full → D.has_failed disk.new }
@@ -182,6 +187,7 @@ fn bring<D: Disk>(disk: &mut D, draft: &FileName, name: &FileName) -> Result<boo
     ensures other_octets { IfOk result (λ done. IsTrue done ⊎ (D.tells disk.new
         → IsUnchanged (D.state disk.old) (D.state disk.new)
         × AreOther (D.state disk.old) draft.now name.now)) }
+    ensures syncs { AtMostSyncs SEGMENT_SYNCS (D.syncs disk.old) (D.syncs disk.new) }
     ensures told { D.tells disk.new → D.tells disk.old }
     ensures failed { IsErrOf result DiskFault.Failed → D.has_failed disk.new }
     ensures full { IsErrOf result DiskFault.Full → D.has_failed disk.new }
@@ -235,6 +241,7 @@ impl SegmentDraft {
         ensures stays { D.tells disk.new → IsTaken self (D.state disk.old) day.now
             → IsErr result × IsUnchanged (D.state disk.old) (D.state disk.new) }
 
+        ensures syncs { AtMostSyncs SEGMENT_SYNCS (D.syncs disk.old) (D.syncs disk.new) }
         ensures told { D.tells disk.new → D.tells disk.old }
         ensures cause { IfErr result (IsKeepCause (D.tells disk.new) (D.has_failed disk.new)
             (D.state disk.old) (D.state disk.new) self day.now) }
@@ -297,6 +304,7 @@ impl RecordStore {
         ensures same { IsSameButBroken self.old self.new }
         ensures breaks { IsErr result → IsBroken self.new }
         ensures goes_on { OnOk result (IsBroken self.new → IsBroken self.old) }
+        ensures syncs { AtMostSyncs SEGMENT_SYNCS (D.syncs disk.old) (D.syncs disk.new) }
         ensures told { D.tells disk.new → D.tells disk.old }
         ensures cause { IfErr result (IsKeepCause (D.tells disk.new) (D.has_failed disk.new)
             (D.state disk.old) (D.state disk.new) draft day.now) }

@@ -31,6 +31,7 @@ mod turning;
 
 pub use aside::{cut_journal, set_aside};
 pub use fault::{AppendFault, StoreFault};
+pub use journal::COMMIT_SYNCS;
 pub use journal_damage::JournalDamage;
 pub use keeping::KeepFault;
 pub use law::{after_a_crash, after_a_restart};
@@ -39,5 +40,6 @@ pub use opening::open;
 pub use putting::put;
 pub use renewing::renew;
 pub use sealing::{has_entry, hides_batches, seals};
-pub use segment::{SegmentDraft, SegmentFault};
+pub use segment::{SEGMENT_SYNCS, SegmentDraft, SegmentFault};
 pub use store::RecordStore;
+pub use turning::TURN_SYNCS;

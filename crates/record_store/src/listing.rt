@@ -1,6 +1,6 @@
 //! The journals of a folder, from the oldest to the newest.
 ghost use Rattle.std.specs.Prelude.{◌≡◌, IfErr, IfOk, List, Some, ℕ};
-ghost use Rattle.disk.specs.Calls.{IsUnchanged};
+ghost use Rattle.disk.specs.Calls.{AtMostSyncs, IsUnchanged};
 ghost use Rattle.journal.specs.Journals.{IsSound};
 ghost use Rattle.record_store.specs.Causes.{IsCause, listing_causes, reading_causes};
 ghost use Rattle.record_store.specs.Shown.{AreShown, journal_shown};
@@ -19,6 +19,7 @@ pub fn journals<D: Disk>(alloc: Global, disk: &mut D, last: u64) -> Result<Vec<u
     ensures shown { IfOk result (λ numbers. D.tells disk.new → IsSound (D.state disk.old)
         → AreShown (D.state disk.old) last numbers.items) }
     ensures same { D.tells disk.new → IsUnchanged (D.state disk.old) (D.state disk.new) }
+    ensures syncs { AtMostSyncs 0 (D.syncs disk.old) (D.syncs disk.new) }
     ensures told { D.tells disk.new → D.tells disk.old }
     ensures cause { IfErr result (IsCause (listing_causes (D.tells disk.new) (D.has_failed disk.new))) }
 {

@@ -1,5 +1,6 @@
 //! A whole file is put under a name.
 ghost use Rattle.std.specs.Prelude.{◌≡◌, ◌≢◌, IsErrOf, IsNone, OnOk};
+ghost use Rattle.disk.specs.Calls.{AtMostSyncs};
 ghost use Rattle.disk.specs.Files.{settled};
 ghost use Rattle.journal.specs.Journals.{IsOnDisk, IsSound, KeepsOthers, Shows};
 ghost use Rattle.record_store.specs.Puts.{KeepsOrSettlesApart, LeavesOldOr};
@@ -12,6 +13,7 @@ pub(crate) fn clear<D: Disk>(disk: &mut D, name: &FileName) -> Result<(), DiskFa
     ensures same { D.tells disk.new → (D.state disk.new).lost ≡ (D.state disk.old).lost }
     ensures gone { OnOk result (D.tells disk.new → IsNone ((D.state disk.new).entries name.now).now) }
     ensures others { D.tells disk.new → KeepsOthers (D.state disk.old) (D.state disk.new) name.now }
+    ensures syncs { AtMostSyncs 0 (D.syncs disk.old) (D.syncs disk.new) }
     ensures told { D.tells disk.new → D.tells disk.old }
     ensures failed { IsErrOf result DiskFault.Failed → D.has_failed disk.new }
     ensures full { IsErrOf result DiskFault.Full → D.has_failed disk.new }

@@ -1,6 +1,7 @@
 //! A segment is written, a piece at a time.
 ghost use Rattle.std.specs.Prelude.{◌≡◌, ◌≢◌, ◌<◌, ◌^◌, ◌++◌, ◌∷◌, ◌↔◌, [], All, IfErr, IfOk, IfSome, IsErrOf};
 ghost use Rattle.std.specs.Prelude.{IsNone, IsTrue, List, ℕ, OnOk, codes};
+ghost use Rattle.disk.specs.Calls.{AtMostSyncs};
 ghost use Rattle.disk.specs.Files.{File};
 ghost use Rattle.hex.specs.Hex.{encode_lower};
 ghost use Rattle.sha2.specs.Hashers.{Holds256};
@@ -18,6 +19,9 @@ use thiserror::Error;
 
 // the octets of a SHA-256 in hexadecimal
 const HEX_LEN: usize = 64;
+
+/// How many syncs a segment takes at most: of its file and of the folder.
+pub const SEGMENT_SYNCS: u64 = 2;
 
 /// A segment that is being written: a file under the name of a draft, until all of it is on the disk.
 #[derive(Drop)]
@@ -121,6 +125,7 @@ pub(crate) fn place<D: Disk>(
     ensures others { D.tells disk.new → KeepsOrSettlesApart (D.state disk.old) (D.state disk.new)
         draft.now name.now }
 
+    ensures syncs { AtMostSyncs SEGMENT_SYNCS (D.syncs disk.old) (D.syncs disk.new) }
     ensures told { D.tells disk.new → D.tells disk.old }
     ensures failed { IsErrOf result DiskFault.Failed → D.has_failed disk.new }
     ensures full { IsErrOf result DiskFault.Full → D.has_failed disk.new }
@@ -154,6 +159,7 @@ impl SegmentDraft {
         ensures stands { D.tells disk.new → ¬ (Counts name) → (store : RecordStore) (sets : Sets)
             → Stands store (D.state disk.old) sets → Stands store (D.state disk.new) sets }
 
+        ensures syncs { AtMostSyncs 0 (D.syncs disk.old) (D.syncs disk.new) }
         ensures told { D.tells disk.new → D.tells disk.old }
         ensures cause { IfErr result (IsBeginningCause (D.tells disk.new) (D.has_failed disk.new)) }
     {
@@ -180,6 +186,7 @@ impl SegmentDraft {
             (sets : Sets) → Stands store (D.state disk.old) sets
             → Stands store (D.state disk.new) sets }
 
+        ensures syncs { AtMostSyncs 0 (D.syncs disk.old) (D.syncs disk.new) }
         ensures told { D.tells disk.new → D.tells disk.old }
         ensures cause { IfErr result (IsDraftCause (D.tells disk.new) (D.has_failed disk.new)
             (D.state disk.old) (draft_of self.old)) }
@@ -224,6 +231,7 @@ impl SegmentDraft {
             → (others : List Entry) → HeldApart (D.state disk.old) others
             → HeldApart (D.state disk.new) others }
 
+        ensures syncs { AtMostSyncs SEGMENT_SYNCS (D.syncs disk.old) (D.syncs disk.new) }
         ensures told { D.tells disk.new → D.tells disk.old }
         ensures cause { IfErr result (IsSegmentCause (D.tells disk.new) (D.has_failed disk.new)
             (D.state disk.old) (draft_of self) day.now) }
@@ -276,6 +284,7 @@ impl RecordStore {
         ensures number { number_of self.new ≡ number_of self.old }
         ensures breaks { IsErr result → IsBroken self.new }
         ensures goes_on { OnOk result (IsBroken self.new → IsBroken self.old) }
+        ensures syncs { AtMostSyncs SEGMENT_SYNCS (D.syncs disk.old) (D.syncs disk.new) }
         ensures told { D.tells disk.new → D.tells disk.old }
         ensures cause { IfErr result (IsSegmentCause (D.tells disk.new) (D.has_failed disk.new)
             (D.state disk.old) (draft_of draft) day.now) }

@@ -1,10 +1,12 @@
 //! A store that is written.
 ghost use Rattle.std.specs.Prelude.{◌≡◌, ◌≢◌, ◌↔◌, ◌++◌, ◌∷◌, [], List, ℕ, IfErr, IfOk, IsErr, IsErrOf, OnErr, OnOk};
+ghost use Rattle.disk.specs.Calls.{AtMostSyncs};
 ghost use Rattle.disk.specs.States.{State};
 ghost use Rattle.journal.specs.Journals.{IsSound, Stands as JournalStands};
+ghost use Rattle.journal.specs.declared.journal.TheConstants.{COMMIT_SYNCS};
 ghost use Rattle.archive_text.specs.Entries.{Entry, IsEntry};
 ghost use Rattle.record_store.specs.Asides.{KeepsOrSettlesFiles};
-ghost use Rattle.record_store.specs.Causes.{IsCause, commit_causes, first_causes};
+ghost use Rattle.record_store.specs.Causes.{IsCause, TellsNumber, commit_causes, first_causes};
 ghost use Rattle.record_store.specs.Crashes.{Keeps};
 ghost use Rattle.record_store.specs.Seals.{sealed};
 ghost use Rattle.record_store.specs.Shown.{JournalsWithin, ShowsNoJournal, ShowsWithin};
@@ -125,9 +127,11 @@ impl RecordStore {
         ensures idle { batch_of self.old ≡ [] → disk.new ≡ disk.old }
         ensures broken { IsErrOf result StoreFault.Broken ↔ IsBroken self.old }
         ensures breaks { IsErr result ↔ IsBroken self.new }
+        ensures syncs { AtMostSyncs COMMIT_SYNCS (D.syncs disk.old) (D.syncs disk.new) }
         ensures told { D.tells disk.new → D.tells disk.old }
         ensures cause { IfErr result (IsCause
             (commit_causes (D.tells disk.new) (D.has_failed disk.new) self.old (D.state disk.old))) }
+        ensures number { IfErr result (TellsNumber (number_of self.old)) }
     {
         if self.broken {
             return Err(StoreFault::Broken);

@@ -1,7 +1,7 @@
 //! One journal after another.
 ghost use Rattle.std.specs.Prelude.{◌≡◌, ◌⊎◌, ◌+◌, ◌↔◌, ◌^◌, ◌<◌, [], None, List, ℕ, Contains, IfErr, IfOk};
 ghost use Rattle.std.specs.Prelude.{IsErr, OnErr, OnOk};
-ghost use Rattle.disk.specs.Calls.{IsUnchanged, RemovesFile};
+ghost use Rattle.disk.specs.Calls.{AtMostSyncs, IsUnchanged, RemovesFile};
 ghost use Rattle.journal.specs.Journals.{IsSound, KeepsOrSettlesOthers, LeavesNoBatch, SettlesOthers};
 ghost use Rattle.journal.specs.Journals.{ShowsNoBatch, Stands as JournalStands, name_of};
 ghost use Rattle.archive_text.specs.Entries.{Entry};
@@ -20,11 +20,14 @@ use crate::fault::StoreFault;
 use crate::listing::journals;
 use crate::names::name_of_journal;
 use disk::{Disk, DiskFault};
-use journal::{Journal, JournalFault};
+use journal::{CREATE_SYNCS, Journal, JournalFault};
 use std::alloc::Global;
 
 // the most journals that a turn removes
 const SHED_MAX: usize = 64;
+
+/// How many syncs a turn makes at most: those of the new journal.
+pub const TURN_SYNCS: u64 = CREATE_SYNCS;
 
 pub(crate) fn at_journal(number: u64, fault: DiskFault) -> StoreFault
     ensures { result ≡ StoreFault.Journal number (JournalFault.Disk fault) }
@@ -51,6 +54,7 @@ fn make_journal<D: Disk>(alloc: Global, disk: &mut D, number: u64) -> Result<Jou
     ensures shows { D.tells disk.new → journal_shown (D.state disk.old) number ≡ None
         → ShowsNoBatch (D.state disk.new) (journal_name number) }
 
+    ensures syncs { AtMostSyncs TURN_SYNCS (D.syncs disk.old) (D.syncs disk.new) }
     ensures told { D.tells disk.new → D.tells disk.old }
     ensures cause { IfErr result (IsCause
         (making_causes (D.tells disk.new) (D.has_failed disk.new) (D.state disk.old) number)) }
@@ -70,6 +74,7 @@ fn remove_journal<D: Disk>(alloc: Global, disk: &mut D, number: u64) -> Result<(
     ensures removed { OnOk result (D.tells disk.new
         → journal_shown (D.state disk.new) number ≡ None) }
 
+    ensures syncs { AtMostSyncs 0 (D.syncs disk.old) (D.syncs disk.new) }
     ensures told { D.tells disk.new → D.tells disk.old }
     ensures cause { IfErr result (IsCause
         (removing_causes (D.tells disk.new) (D.has_failed disk.new) (D.state disk.old) number)) }
@@ -93,6 +98,7 @@ fn remove_journals<D: Disk>(alloc: Global, disk: &mut D, numbers: &[u64]) -> Res
     ensures only { D.tells disk.new → LosesOnly (D.state disk.old) (D.state disk.new) numbers.now }
     ensures lost { D.tells disk.new → (D.state disk.new).lost ≡ (D.state disk.old).lost }
 
+    ensures syncs { AtMostSyncs 0 (D.syncs disk.old) (D.syncs disk.new) }
     ensures told { D.tells disk.new → D.tells disk.old }
     ensures cause { IfErr result (IsCause (shedding_causes (D.tells disk.new) (D.has_failed disk.new)
         (D.state disk.old) numbers.now)) }
@@ -129,6 +135,7 @@ fn succeed<D: Disk>(alloc: Global, disk: &mut D, number: u64) -> Result<Journal,
     ensures fits { OnOk result (number + 1 < 2 ^ 64) }
     ensures sheds { OnOk result (D.tells disk.new → IsSound (D.state disk.old)
         → ShedsOldest 64 (D.state disk.old) (D.state disk.new) number) }
+    ensures syncs { AtMostSyncs TURN_SYNCS (D.syncs disk.old) (D.syncs disk.new) }
     ensures told { D.tells disk.new → D.tells disk.old }
     ensures cause { (store : RecordStore) → IsWhole store → number_of store ≡ number → IfErr result (IsCause
         (turn_causes (D.tells disk.new) (D.has_failed disk.new) store (D.state disk.old))) }
@@ -171,6 +178,7 @@ impl RecordStore {
         ensures sheds { OnOk result (D.tells disk.new → IsSound (D.state disk.old)
             → ShedsOldest 64 (D.state disk.old) (D.state disk.new) (number_of self.old)) }
         ensures breaks { IsErr result ↔ IsBroken self.new }
+        ensures syncs { AtMostSyncs TURN_SYNCS (D.syncs disk.old) (D.syncs disk.new) }
         ensures told { D.tells disk.new → D.tells disk.old }
         ensures cause { IfErr result (IsCause
             (turn_causes (D.tells disk.new) (D.has_failed disk.new) self.old (D.state disk.old))) }

@@ -50,3 +50,16 @@ kept_part a mid b frame m n line front text sent same none is part counts = (
   where
     whole : text ≡ counted_text (refusal_text line frame)
     whole = is ∙ ap (λ (x : List ℕ). x ++ counted_text (refusal_text line frame)) none
+
+-- behind a line, for which more may have been dropped
+kept_later : (a b : OutputState) (frame : Option (List ℕ)) (m k n : ℕ) → m ≤ k → KeepsFrame a b frame k n
+    → KeepsFrame a b frame m n
+kept_later a b frame m k n within (line, inl kept) = (line, inl kept)
+kept_later a b frame m k n within (line, inr (part, inl more)) = (line, inr (part, inl (omega (arith, within, more))))
+kept_later a b frame m k n within (line, inr (part, inr most)) = (line, inr (part, inr most))
+
+pub kept_behind : {R : Type 0} (state : R → OutputState) (x y : R) (b : OutputState) (frame : Option (List ℕ))
+    (m k n : ℕ)
+    → y ≡ x → m ≤ k → KeepsFrame (state y) b frame k n → KeepsFrame (state x) b frame m n
+kept_behind {R = R} state x y b frame m k n same within kept =
+    kept_later (state x) b frame m k n within (subst (λ (z : R). KeepsFrame (state z) b frame k n) same kept)

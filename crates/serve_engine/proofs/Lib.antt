@@ -1,3 +1,5 @@
+pub mod Words
+pub mod Told
 pub mod Rows
 pub mod Opening
 pub mod Ending

@@ -29,7 +29,10 @@ use Rattle.serve_engine.specs.declared.report.Report.{Report}
 use Rattle.serve_engine.specs.declared.serve_end.ServeEnd.{ServeEnd}
 use Rattle.serve_engine.specs.declared.turn.Turn.{Turn}
 use Rattle.serve_engine.specs.declared.turn.Turn.TheVariants.{On, End}
+use Rattle.serve_engine.specs.Notes.{TellsOf, line_count, told_in}
+use Rattle.serve_engine.specs.Peers.{peer_of}
 use Rattle.serve_engine.proofs.Counted.{broken_one, broken_twice}
+use Rattle.serve_engine.proofs.Told.{hears_weaker}
 
 -- what an observer is told is told of a part of it
 one_part : {O P : Type 0} (t : P → Outcome → Option (List ℕ) → P → Type 0) (m : O → P) (x y : O) (fs : List (List ℕ))
@@ -68,12 +71,12 @@ piece_part t m (Some s) octets waited waits log_old log_new x y (os, log, h) = (
   },
 )
 
-pub hears_kept : {N R : Type 0} (state : R → OutputState) (q : Option Stream) (octets : List ℕ) (waited waits : ℕ)
+kept_heard : {N R : Type 0} (state : R → OutputState) (q : Option Stream) (octets : List ℕ) (waited waits : ℕ)
     (outcomes : List Outcome) (x y : Report N R) (old new : OutputState × ServeCounts) → kept_in state x ≡ old
     → kept_in state y ≡ new
     → HearsReceived (λ a p f b. KeepsNext (kept_in state a) p f (kept_in state b)) q octets waited waits outcomes x y
     → HearsReceived KeepsNext q octets waited waits outcomes old new
-hears_kept state q octets waited waits outcomes x y old new was now (n, os, h, same) = (
+kept_heard state q octets waited waits outcomes x y old new was now (n, os, h, same) = (
   n,
   os,
   subst (λ (u : OutputState × ServeCounts). HearsPiece KeepsNext q (take n octets) waited waits [] os u new) was
@@ -81,6 +84,19 @@ hears_kept state q octets waited waits outcomes x y old new was now (n, os, h, s
       now (piece_part KeepsNext (kept_in state) q (take n octets) waited waits [] os x y h)),
   same,
 )
+
+pub hears_kept : {N R : Type 0} (told : N → OutputState) (state : R → OutputState) (q : Option Stream) (octets : List ℕ)
+    (waited waits : ℕ) (outcomes : List Outcome) (x y : Report N R) (old new : OutputState × ServeCounts)
+    → kept_in state x ≡ old → kept_in state y ≡ new
+    → HearsReceived (λ a p f b. KeepsNext (kept_in state a) p f (kept_in state b)
+    × TellsOf (peer_of a.way) (line_count p) (told_in told a) (told_in told b) × (b.way ≡ a.way)) q octets waited waits
+    outcomes x y
+    → HearsReceived KeepsNext q octets waited waits outcomes old new
+hears_kept told state q octets waited waits outcomes x y old new was now h =
+    kept_heard state q octets waited waits outcomes x y old new was now
+    (hears_weaker _ (λ a p f b. KeepsNext (kept_in state a) p f (kept_in state b))
+    (λ a p f b both. both.0) q octets waited
+    waits outcomes x y h)
 
 -- octets were counted
 pub kept_at : {N R : Type 0} (state : R → OutputState) (x y : Report N R) (octets : List ℕ) → x.refused ≡ y.refused

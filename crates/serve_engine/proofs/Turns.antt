@@ -17,7 +17,6 @@ use Rattle.syslog_collect.specs.Logs.{LogsPart}
 use Rattle.syslog_collect.specs.declared.outcome.Outcome.{Outcome}
 use Rattle.syslog_collect.proofs.Headline.{holds_received}
 use Rattle.socket_source.specs.declared.step.ServerStep.{ServerStep}
-use Rattle.socket_source.specs.declared.step.ServerStep.TheVariants as step
 use Rattle.serve_engine.specs.Events.{IsAccepted, IsReceivedAs, Manner, Receives, ends_in_bad_count, event_of, loses}
 use Rattle.serve_engine.specs.Events.{NoneOf, loses_opening, loses_piece, manner_of, turn_after, turn_of, waits_in}
 use Rattle.serve_engine.specs.Intakes.{IsCommitted, StandsBy}

@@ -6,6 +6,7 @@ pub mod Events
 pub mod Refusals
 pub mod Counts
 pub mod Paces
+pub mod Notes
 pub mod Intakes
 pub mod Serving
 pub mod Servers

@@ -9,6 +9,7 @@ use Rattle.socket_source.specs.Steps.{Given, SourceState}
 use Rattle.serve_engine.specs.Events.{Manner, manner_of}
 use Rattle.serve_engine.specs.Intakes.{StandsBy}
 use Rattle.serve_engine.specs.Keepings.{Kept, StaysCommitted}
+use Rattle.serve_engine.specs.Notes.{Told, told_in}
 use Rattle.serve_engine.specs.Refusals.{outputs_in, KeepsSilent, kept_in}
 use Rattle.serve_engine.specs.Serving.{Gave, HoldsReceived, IfCommitted, IfSettled, IsCause, Served, UnlessMemory}
 use Rattle.serve_engine.specs.Serving.{UnlessStopped, event_in, is_due, is_over, with_peer_in}
@@ -31,6 +32,10 @@ counts_of server = server.report.counts
 -- where it writes its lines, and the frames that it refuses
 abbrev pub outputs_of : {S K N R : Type 0} → Server S K N R → N × R
 outputs_of server = outputs_in server.report
+
+-- what it has told in its notes, and their pace
+abbrev pub told_of : {S K N R : Type 0} → (N → OutputState) → Server S K N R → Told
+told_of state server = told_in state server.report
 
 -- its disk was full at the last try
 abbrev pub is_full : {S K N R : Type 0} → Server S K N R → Bool

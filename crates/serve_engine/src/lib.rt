@@ -9,6 +9,8 @@
 mod counts;
 mod intake;
 mod keeping;
+mod law;
+mod limits;
 mod lines;
 mod pace;
 mod peers;
@@ -23,6 +25,8 @@ mod turn;
 
 pub use counts::ServeCounts;
 pub use keeping::{KeepFault, Keeping, Pause, Taken};
+pub use law::notes_are_few;
+pub use limits::{STATUS_LINES, TURN_LINES};
 pub use serve_end::ServeEnd;
 pub use server::Server;
 pub use serving::ServeOptions;

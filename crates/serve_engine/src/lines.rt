@@ -1,6 +1,9 @@
 //! The lines of a server.
-ghost use Rattle.std.specs.Prelude.{◌≡◌};
-ghost use Rattle.serve_engine.specs.Lines.{is_bad_count};
+ghost use Rattle.std.specs.Prelude.{◌≡◌, ◌++◌, OnOk, codes, decimal};
+ghost use Rattle.std.specs.Net.Text.{socket_text};
+ghost use Rattle.serve_engine.specs.Lines.{at_text, batches_text, counted_text, counts_text, happening_text};
+ghost use Rattle.serve_engine.specs.Lines.{is_bad_count, not_allowed_text, peer_text, records_text, refusals_text};
+ghost use Rattle.serve_engine.specs.Lines.{refused_text, way_text};
 
 use crate::counts::ServeCounts;
 use crate::peers::Way;
@@ -32,21 +35,29 @@ pub(crate) enum Happening {
     Dropped,
 }
 
-fn put(out: &mut Vec<u8>, text: &[u8]) -> Result<(), AllocError> {
+fn put(out: &mut Vec<u8>, text: &[u8]) -> Result<(), AllocError>
+    ensures { OnOk result (out.new.items ≡ out.old.items ++ text.now) }
+{
     out.extend_from_slice(text)
 }
 
-fn put_number(out: &mut Vec<u8>, number: u64) -> Result<(), AllocError> {
+fn put_number(out: &mut Vec<u8>, number: u64) -> Result<(), AllocError>
+    ensures { OnOk result (out.new.items ≡ out.old.items ++ decimal number) }
+{
     put(out, Buffer::new().format(number).as_bytes())
 }
 
-fn put_address(alloc: Global, out: &mut Vec<u8>, peer: SocketAddr) -> Result<(), AllocError> {
+fn put_address(alloc: Global, out: &mut Vec<u8>, peer: SocketAddr) -> Result<(), AllocError>
+    ensures { OnOk result (out.new.items ≡ out.old.items ++ socket_text peer) }
+{
     let text = format!(in alloc; "{peer}")?;
     put(out, text.as_bytes())
 }
 
 /// Appends the way by which octets came, and a space.
-pub(crate) fn put_way(alloc: Global, out: &mut Vec<u8>, way: Way) -> Result<(), AllocError> {
+pub(crate) fn put_way(alloc: Global, out: &mut Vec<u8>, way: Way) -> Result<(), AllocError>
+    ensures { OnOk result (out.new.items ≡ out.old.items ++ way_text way) }
+{
     match way {
         Way::Udp(peer) => {
             put(out, b"udp ")?;
@@ -78,7 +89,9 @@ pub(crate) fn put_refused(
     way: Way,
     number: u64,
     outcome: Outcome,
-) -> Result<(), AllocError> {
+) -> Result<(), AllocError>
+    ensures { OnOk result (out.new.items ≡ out.old.items ++ refused_text way number outcome) }
+{
     put_way(alloc, out, way)?;
     match outcome {
         Outcome::Refused(fault) => put_line(out, Line::Refused { number, fault }),
@@ -94,14 +107,18 @@ fn put_at(
     way: Way,
     words: &[u8],
     at: u64,
-) -> Result<(), AllocError> {
+) -> Result<(), AllocError>
+    ensures { OnOk result (out.new.items ≡ out.old.items ++ at_text way words.now at) }
+{
     put_way(alloc, out, way)?;
     put(out, words)?;
     put_number(out, at)?;
     put(out, b"\n")
 }
 
-fn put_peer(alloc: Global, out: &mut Vec<u8>, way: Way, words: &[u8]) -> Result<(), AllocError> {
+fn put_peer(alloc: Global, out: &mut Vec<u8>, way: Way, words: &[u8]) -> Result<(), AllocError>
+    ensures { OnOk result (out.new.items ≡ out.old.items ++ (peer_text way ++ words.now)) }
+{
     match way {
         Way::Udp(peer) | Way::Stream(_, peer) => put_address(alloc, out, peer)?,
         Way::Unix => put(out, b"-")?,
@@ -115,7 +132,9 @@ pub(crate) fn put_happening(
     out: &mut Vec<u8>,
     way: Way,
     happening: Happening,
-) -> Result<(), AllocError> {
+) -> Result<(), AllocError>
+    ensures { OnOk result (out.new.items ≡ out.old.items ++ happening_text way happening) }
+{
     match happening {
         Happening::Unterminated(start) => put_at(alloc, out, way, b"unterminated ", start),
         Happening::BadCount(at) => put_at(alloc, out, way, b"bad-count ", at),
@@ -128,9 +147,57 @@ pub(crate) fn put_happening(
     }
 }
 
-fn put_count(out: &mut Vec<u8>, words: &[u8], count: u64) -> Result<(), AllocError> {
+fn put_count(out: &mut Vec<u8>, words: &[u8], count: u64) -> Result<(), AllocError>
+    ensures { OnOk result (out.new.items ≡ out.old.items ++ (words.now ++ decimal count)) }
+{
     put(out, words)?;
     put_number(out, count)
+}
+
+// Appends the counts of records.
+fn put_records(out: &mut Vec<u8>, counts: &ServeCounts) -> Result<(), AllocError>
+    ensures { OnOk result (out.new.items ≡ out.old.items ++ records_text counts.now) }
+{
+    put_count(out, b"received ", counts.received)?;
+    put_count(out, b" new ", counts.new)?;
+    put_count(out, b" held ", counts.held)
+}
+
+// Appends the counts of what was refused, and of connections.
+fn put_refusals(out: &mut Vec<u8>, counts: &ServeCounts) -> Result<(), AllocError>
+    ensures { OnOk result (out.new.items ≡ out.old.items ++ refusals_text counts.now) }
+{
+    put_count(out, b" refused ", counts.refused)?;
+    put_count(out, b" too-long ", counts.too_long)?;
+    put_count(out, b" connections ", counts.connections)
+}
+
+// Appends the counts of commits, of octets and of lines that were left out.
+fn put_batches(out: &mut Vec<u8>, counts: &ServeCounts) -> Result<(), AllocError>
+    ensures { OnOk result (out.new.items ≡ out.old.items ++ batches_text counts.now) }
+{
+    put_count(out, b" batches ", counts.batches)?;
+    put_count(out, b" octets ", counts.octets)?;
+    put_count(out, b" quiet ", counts.quiet)
+}
+
+// Appends all counts but that of peers that may not send.
+fn put_counted(out: &mut Vec<u8>, counts: &ServeCounts) -> Result<(), AllocError>
+    ensures { OnOk result (out.new.items ≡ out.old.items ++ counted_text counts.now) }
+{
+    put_records(out, counts)?;
+    put_refusals(out, counts)?;
+    put_batches(out, counts)
+}
+
+// Appends the count of peers that may not send, if somebody asks for it.
+fn put_not_allowed(out: &mut Vec<u8>, counts: &ServeCounts, asked: bool) -> Result<(), AllocError>
+    ensures { OnOk result (out.new.items ≡ out.old.items ++ not_allowed_text asked counts.now) }
+{
+    if asked {
+        put_count(out, b" not-allowed ", counts.not_allowed)?;
+    }
+    Ok(())
 }
 
 /// Appends the line of counts, with the peers that may not send if somebody asks for them.
@@ -138,18 +205,10 @@ pub(crate) fn put_counts(
     out: &mut Vec<u8>,
     counts: &ServeCounts,
     with_not_allowed: bool,
-) -> Result<(), AllocError> {
-    put_count(out, b"received ", counts.received)?;
-    put_count(out, b" new ", counts.new)?;
-    put_count(out, b" held ", counts.held)?;
-    put_count(out, b" refused ", counts.refused)?;
-    put_count(out, b" too-long ", counts.too_long)?;
-    put_count(out, b" connections ", counts.connections)?;
-    put_count(out, b" batches ", counts.batches)?;
-    put_count(out, b" octets ", counts.octets)?;
-    put_count(out, b" quiet ", counts.quiet)?;
-    if with_not_allowed {
-        put_count(out, b" not-allowed ", counts.not_allowed)?;
-    }
+) -> Result<(), AllocError>
+    ensures { OnOk result (out.new.items ≡ out.old.items ++ counts_text counts.now with_not_allowed) }
+{
+    put_counted(out, counts)?;
+    put_not_allowed(out, counts, with_not_allowed)?;
     put(out, b"\n")
 }

@@ -12,10 +12,10 @@ const PEER_COST: u128 = 100;
 const PEER_MOST: u128 = 10_000;
 
 /// What a line costs all peers together: a thousand lines a second.
-const ALL_COST: u128 = 1;
+pub(crate) const ALL_COST: u128 = 1;
 
 /// How much they may owe: a burst of a thousand lines.
-const ALL_MOST: u128 = 1_000;
+pub(crate) const ALL_MOST: u128 = 1_000;
 
 /// How many rows of places there are. It is a prime number, so that addresses spread.
 const ROWS: usize = 521;

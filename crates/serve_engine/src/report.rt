@@ -1,7 +1,10 @@
 //! What a server tells: lines, counts, and the frames that it refuses.
-ghost use Rattle.std.specs.Prelude.{◌≡◌, ◌≤◌, false, true};
+ghost use Rattle.std.specs.Prelude.{◌≡◌, ◌≤◌, ◌<◌, ℕ, OnOk, [], false, length, true};
 ghost use Rattle.serve_engine.specs.Counts.{CountsDropped, CountsEnd, connection_counted, count_up, counted, no_counts};
 ghost use Rattle.serve_engine.specs.Counts.{broken_counted, commit_counted, octets_counted, quiet_counted};
+ghost use Rattle.serve_engine.specs.Lines.{counts_text, is_refused};
+ghost use Rattle.serve_engine.specs.Notes.{IsNote, TakesMade, TakesSome, TellsFew, TellsOf, line_count, line_counts};
+ghost use Rattle.serve_engine.specs.Notes.{told_in};
 ghost use Rattle.serve_engine.specs.Paces.{GoesByPace, HasLine, PaysFor, SpendsLine};
 ghost use Rattle.std.specs.Net.Socket.{socket_ip};
 ghost use Rattle.serve_engine.specs.Peers.{number_of, peer_of};
@@ -41,6 +44,7 @@ pub(crate) struct Report<N, R> {
 
 impl<N: Output + Drop, R: Output + Drop> Report<N, R> {
     pub(crate) fn new(alloc: Global, pace: Pace, notes: N, refused: R) -> Report<N, R>
+        ensures pace { result.pace ≡ pace }
         ensures counts { result.counts ≡ no_counts }
         ensures outputs { outputs_in result ≡ (notes, refused) }
     {
@@ -93,9 +97,15 @@ impl<N: Output + Drop, R: Output + Drop> Report<N, R> {
         ensures counts { CountsDropped self.old.counts self.new.counts }
         ensures quiet { self.new.counts.quiet ≡ self.old.counts.quiet }
         ensures pace { self.new.pace ≡ self.old.pace }
+        ensures way { self.new.way ≡ self.old.way }
+        ensures once { TakesMade made self.old.line.items (N.state self.old.notes) (N.state self.new.notes) }
     {
-        if made.is_err() || write_all(&mut self.notes, self.line.as_slice()).is_err() {
-            self.counts.dropped = self.counts.dropped.saturating_add(1);
+        match made {
+            Err(_) => self.drop_one(),
+            Ok(()) => match write_all(&mut self.notes, self.line.as_slice()) {
+                Err(_) => self.drop_one(),
+                Ok(()) => {}
+            },
         }
     }
 
@@ -108,6 +118,9 @@ impl<N: Output + Drop, R: Output + Drop> Report<N, R> {
             self.new.counts.quiet }
         ensures quiet { ¬ (HasLine self.old.pace (peer_of way))
             → self.new ≡ record self.old { counts = quiet_counted self.old.counts } }
+        ensures told { OnOk made (IsNote self.old.line.items)
+            → TellsOf (peer_of way) 1 (told_in N.state self.old) (told_in N.state self.new) }
+        ensures way { self.new.way ≡ self.old.way }
     {
         if self.pace.lets(way.peer()) {
             self.write_line(made);
@@ -122,6 +135,8 @@ impl<N: Output + Drop, R: Output + Drop> Report<N, R> {
         ensures counts { CountsDropped self.old.counts self.new.counts }
         ensures pace { GoesByPace self.old.pace self.new.pace (peer_of way) self.old.counts.quiet
             self.new.counts.quiet }
+        ensures told { TellsOf (peer_of way) 1 (told_in N.state self.old) (told_in N.state self.new) }
+        ensures way { self.new.way ≡ self.old.way }
     {
         self.line.clear();
         let made = put_happening(alloc, &mut self.line, way, happening);
@@ -132,13 +147,17 @@ impl<N: Output + Drop, R: Output + Drop> Report<N, R> {
     pub(crate) fn tick(&mut self, millis: u32)
         ensures kept { kept_in R.state self.new ≡ kept_in R.state self.old }
         ensures pace { PaysFor self.old.pace self.new.pace millis }
+        ensures notes { self.new.notes ≡ self.old.notes }
     {
         self.pace.tick(millis);
     }
 
     /// Tells a line whose text is known.
     pub(crate) fn tell_text(&mut self, text: &[u8])
-        ensures { KeepsSilent false (kept_in R.state self.old) (kept_in R.state self.new) }
+        requires { IsNote text.now }
+        ensures kept { KeepsSilent false (kept_in R.state self.old) (kept_in R.state self.new) }
+        ensures told { TellsFew 1 (N.state self.old.notes) (N.state self.new.notes) }
+        ensures pace { self.new.pace ≡ self.old.pace }
     {
         self.line.clear();
         let made = self.line.extend_from_slice(text);
@@ -148,6 +167,9 @@ impl<N: Output + Drop, R: Output + Drop> Report<N, R> {
     /// Tells the counts, with the peers that may not send if that is asked for.
     pub(crate) fn tell_counts(&mut self, with_not_allowed: bool)
         ensures kept { KeepsSilent false (kept_in R.state self.old) (kept_in R.state self.new) }
+        ensures told { TellsFew 1 (N.state self.old.notes) (N.state self.new.notes) }
+        ensures counts { TakesSome (counts_text self.old.counts with_not_allowed) (N.state self.old.notes)
+            (N.state self.new.notes) }
         ensures pace { self.new.pace ≡ self.old.pace }
     {
         self.line.clear();
@@ -159,6 +181,8 @@ impl<N: Output + Drop, R: Output + Drop> Report<N, R> {
     fn count(&mut self, outcome: Outcome)
         ensures refused { self.new.refused ≡ self.old.refused }
         ensures counts { self.new.counts ≡ counted self.old.counts outcome }
+        ensures told { told_in N.state self.new ≡ told_in N.state self.old }
+        ensures way { self.new.way ≡ self.old.way }
     {
         match outcome {
             Outcome::New => count_up(&mut self.counts.received, 1),
@@ -178,11 +202,14 @@ impl<N: Output + Drop, R: Output + Drop> Report<N, R> {
     fn drop_one(&mut self)
         ensures refused { self.new.refused ≡ self.old.refused }
         ensures dropped { self.new.counts.dropped ≡ count_up self.old.counts.dropped 1 }
+        ensures grows { self.old.counts.dropped ≤ self.new.counts.dropped }
         ensures counts { CountsDropped self.old.counts self.new.counts }
         ensures quiet { self.new.counts.quiet ≡ self.old.counts.quiet }
+        ensures told { told_in N.state self.new ≡ told_in N.state self.old }
         ensures pace { self.new.pace ≡ self.old.pace }
+        ensures way { self.new.way ≡ self.old.way }
     {
-        count_up(&mut self.counts.dropped, 1);
+        self.counts.dropped = self.counts.dropped.saturating_add(1);
     }
 
     // Keeps a frame that was refused, behind the line on it.
@@ -191,7 +218,9 @@ impl<N: Output + Drop, R: Output + Drop> Report<N, R> {
             self.old.counts.dropped self.new.counts.dropped }
         ensures counts { CountsDropped self.old.counts self.new.counts }
         ensures quiet { self.new.counts.quiet ≡ self.old.counts.quiet }
+        ensures told { told_in N.state self.new ≡ told_in N.state self.old }
         ensures pace { self.new.pace ≡ self.old.pace }
+        ensures way { self.new.way ≡ self.old.way }
     {
         self.kept.clear();
         let line = without_lf(self.line.as_slice());
@@ -213,11 +242,14 @@ impl<N: Output + Drop, R: Output + Drop> Report<N, R> {
         outcome: Outcome,
         frame: Option<&[u8]>,
     )
+        requires { is_refused outcome ≡ true }
         ensures kept { KeepsFrame (R.state self.old.refused) (R.state self.new.refused) (octets_in frame.entry)
             self.old.counts.dropped self.new.counts.dropped }
         ensures counts { CountsDropped self.old.counts self.new.counts }
         ensures pace { GoesByPace self.old.pace self.new.pace (peer_of way) self.old.counts.quiet
             self.new.counts.quiet }
+        ensures told { TellsOf (peer_of way) 1 (told_in N.state self.old) (told_in N.state self.new) }
+        ensures way { self.new.way ≡ self.old.way }
     {
         self.line.clear();
         let made = put_refused(alloc, &mut self.line, way, number, outcome);
@@ -235,6 +267,9 @@ impl<N: Output + Drop, R: Output + Drop> Report<N, R> {
     )
         ensures kept { KeepsNext (kept_in R.state self.old) outcome (octets_in frame.entry)
             (kept_in R.state self.new) }
+        ensures told { TellsOf (peer_of way) (line_count outcome) (told_in N.state self.old)
+            (told_in N.state self.new) }
+        ensures way { self.new.way ≡ self.old.way }
     {
         self.count(outcome);
         let number = self.number;
@@ -258,6 +293,8 @@ impl<N: Output + Drop, R: Output + Drop> Report<N, R> {
     )
         ensures kept { KeepsEach datagram.now outcomes.now (kept_in R.state self.old)
             (kept_in R.state self.new) }
+        ensures told { TellsOf (peer_of way) (line_counts outcomes.now) (told_in N.state self.old)
+            (told_in N.state self.new) }
     {
         for outcome in outcomes {
             self.outcome(alloc, way, *outcome, Some(datagram));
@@ -268,6 +305,7 @@ impl<N: Output + Drop, R: Output + Drop> Report<N, R> {
     pub(crate) fn lost(&mut self, alloc: Global, way: Way, happening: Happening)
         ensures kept { KeepsNone (kept_in R.state self.old) (kept_in R.state self.new) }
         ensures counts { CountsDropped (broken_counted self.old.counts) self.new.counts }
+        ensures told { TellsOf (peer_of way) 1 (told_in N.state self.old) (told_in N.state self.new) }
     {
         count_up(&mut self.counts.broken, 1);
         self.tell(alloc, way, happening);
@@ -278,6 +316,8 @@ impl<N: Output + Drop, R: Output + Drop> Report<N, R> {
         ensures kept { KeepsSilent false (peer_counted (kept_in R.state self.old)) (kept_in R.state self.new) }
         ensures pace { GoesByPace self.old.pace self.new.pace (number_of (socket_ip peer)) self.old.counts.quiet
             self.new.counts.quiet }
+        ensures told { TellsOf (number_of (socket_ip peer)) 1 (told_in N.state self.old)
+            (told_in N.state self.new) }
     {
         count_up(&mut self.counts.not_allowed, 1);
         self.tell(alloc, Way::Udp(peer), Happening::NotAllowed);
@@ -285,7 +325,8 @@ impl<N: Output + Drop, R: Output + Drop> Report<N, R> {
 
     /// Counts and tells that a datagram is lost for want of memory, if it is.
     pub(crate) fn datagram(&mut self, alloc: Global, way: Way, received: Received)
-        ensures { CountsLost received On (kept_in R.state self.old) (kept_in R.state self.new) }
+        ensures kept { CountsLost received On (kept_in R.state self.old) (kept_in R.state self.new) }
+        ensures told { TellsOf (peer_of way) 1 (told_in N.state self.old) (told_in N.state self.new) }
     {
         match received {
             Received::Memory => self.lost(alloc, way, Happening::Dropped),
@@ -297,6 +338,8 @@ impl<N: Output + Drop, R: Output + Drop> Report<N, R> {
     pub(crate) fn begin_piece(&mut self, way: Way, octets: usize)
         ensures refused { self.new.refused ≡ self.old.refused }
         ensures counts { self.new.counts ≡ octets_counted self.old.counts octets }
+        ensures told { told_in N.state self.new ≡ told_in N.state self.old }
+        ensures way { self.new.way ≡ way }
     {
         self.way = way;
         self.count_octets(octets);
@@ -306,6 +349,7 @@ impl<N: Output + Drop, R: Output + Drop> Report<N, R> {
     fn unterminated(&mut self, alloc: Global, way: Way, received: Received)
         ensures kept { KeepsNone (kept_in R.state self.old) (kept_in R.state self.new) }
         ensures counts { CountsEnd received self.old.counts self.new.counts }
+        ensures told { TellsOf (peer_of way) 1 (told_in N.state self.old) (told_in N.state self.new) }
     {
         match received {
             Received::Unterminated { start } => {
@@ -320,6 +364,7 @@ impl<N: Output + Drop, R: Output + Drop> Report<N, R> {
     pub(crate) fn ended(&mut self, alloc: Global, way: Way, received: Received, end: ConnectionEnd)
         ensures kept { KeepsNone (kept_in R.state self.old) (kept_in R.state self.new) }
         ensures counts { CountsEnd received self.old.counts self.new.counts }
+        ensures told { TellsOf (peer_of way) 2 (told_in N.state self.old) (told_in N.state self.new) }
     {
         self.unterminated(alloc, way, received);
         match end {
@@ -332,8 +377,11 @@ impl<N: Output + Drop, R: Output + Drop> Report<N, R> {
 
     /// Tells by this line why what came waits, unless that was told before.
     pub(crate) fn tell_waiting(&mut self, line: &[u8], told: bool)
+        requires { IsNote line.now }
         ensures kept { KeepsSilent false (kept_in R.state self.old) (kept_in R.state self.new) }
         ensures once { told ≡ true → self.new ≡ self.old }
+        ensures told { TellsFew 1 (N.state self.old.notes) (N.state self.new.notes) }
+        ensures pace { self.new.pace ≡ self.old.pace }
     {
         if !told {
             self.tell_text(line);
@@ -344,6 +392,8 @@ impl<N: Output + Drop, R: Output + Drop> Report<N, R> {
     pub(crate) fn tell_room(&mut self, told: bool)
         ensures kept { KeepsSilent false (kept_in R.state self.old) (kept_in R.state self.new) }
         ensures once { told ≡ false → self.new ≡ self.old }
+        ensures told { TellsFew 1 (N.state self.old.notes) (N.state self.new.notes) }
+        ensures pace { self.new.pace ≡ self.old.pace }
     {
         if told {
             self.tell_text(b"store has room\n");
@@ -352,7 +402,9 @@ impl<N: Output + Drop, R: Output + Drop> Report<N, R> {
 
     /// Tells how serving ends.
     pub(crate) fn tell_end(&mut self, end: ServeEnd)
-        ensures { KeepsSilent false (kept_in R.state self.old) (kept_in R.state self.new) }
+        ensures kept { KeepsSilent false (kept_in R.state self.old) (kept_in R.state self.new) }
+        ensures told { TellsFew 1 (N.state self.old.notes) (N.state self.new.notes) }
+        ensures pace { self.new.pace ≡ self.old.pace }
     {
         if let ServeEnd::Source(_) = end {
             self.tell_text(b"source fault\n");
@@ -363,6 +415,7 @@ impl<N: Output + Drop, R: Output + Drop> Report<N, R> {
     pub(crate) fn count_connection(&mut self)
         ensures kept { KeepsNone (kept_in R.state self.old) (kept_in R.state self.new) }
         ensures counts { self.new.counts ≡ connection_counted self.old.counts }
+        ensures told { told_in N.state self.new ≡ told_in N.state self.old }
     {
         count_up(&mut self.counts.connections, 1);
     }
@@ -371,6 +424,8 @@ impl<N: Output + Drop, R: Output + Drop> Report<N, R> {
     pub(crate) fn count_octets(&mut self, octets: usize)
         ensures refused { self.new.refused ≡ self.old.refused }
         ensures counts { self.new.counts ≡ octets_counted self.old.counts octets }
+        ensures told { told_in N.state self.new ≡ told_in N.state self.old }
+        ensures way { self.new.way ≡ self.old.way }
     {
         count_up(&mut self.counts.octets, octets as u64);
     }
@@ -379,6 +434,7 @@ impl<N: Output + Drop, R: Output + Drop> Report<N, R> {
     pub(crate) fn committed(&mut self, taken: Taken)
         ensures refused { self.new.refused ≡ self.old.refused }
         ensures counts { self.new.counts ≡ commit_counted self.old.counts taken }
+        ensures told { told_in N.state self.new ≡ told_in N.state self.old }
     {
         count_up(&mut self.counts.new, taken.new);
         count_up(&mut self.counts.held, taken.held);
@@ -390,7 +446,8 @@ impl<N: Output + Drop, R: Output + Drop> Report<N, R> {
 }
 
 impl<N: Output + Drop, R: Output + Drop> Observer for Report<N, R> {
-    ghost observes = { λ x o f y. KeepsNext (kept_in R.state x) o f (kept_in R.state y) };
+    ghost observes = { λ x o f y. KeepsNext (kept_in R.state x) o f (kept_in R.state y)
+        × TellsOf (peer_of x.way) (line_count o) (told_in N.state x) (told_in N.state y) × (y.way ≡ x.way) };
 
     fn frame(&mut self, alloc: Global, outcome: Outcome, frame: &[u8]) {
         self.outcome(alloc, self.way, outcome, Some(frame));

@@ -1,6 +1,7 @@
 //! A server: where events go, what it tells, and who is connected.
 ghost use Rattle.std.specs.Prelude.{◌≡◌, false, IfOk};
-ghost use Rattle.serve_engine.specs.Servers.{counts_of, intake_of, is_full, outputs_of};
+ghost use Rattle.serve_engine.specs.Notes.{OwesLittle};
+ghost use Rattle.serve_engine.specs.Servers.{counts_of, intake_of, is_full, outputs_of, told_of};
 ghost use Rattle.serve_engine.specs.Counts.{no_counts};
 
 use crate::counts::ServeCounts;
@@ -44,6 +45,7 @@ impl<S: Store + Drop, K: Keeping<S> + Drop, N: Output + Drop, R: Output + Drop> 
         ensures room { IfOk result (λ server. is_full server ≡ false) }
         ensures counts { IfOk result (λ server. counts_of server ≡ no_counts) }
         ensures outputs { IfOk result (λ server. outputs_of server ≡ (notes, refused)) }
+        ensures pace { IfOk result (λ server. OwesLittle (told_of N.state server).pace) }
     {
         Ok(Server {
             intake: Intake {

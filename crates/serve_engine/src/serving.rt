@@ -1,10 +1,16 @@
 //! The loop of a server.
-ghost use Rattle.std.specs.Prelude.{◌≡◌, Bool, IfNone, false, length, true};
+ghost use Rattle.std.specs.Prelude.{◌≡◌, Bool, IfNone, List, false, length, true};
+ghost use Rattle.archive_text.specs.Entries.{Entry};
+ghost use Rattle.syslog_collect.specs.Collectors.{NoneWaits};
+ghost use Rattle.syslog_collect.specs.History.{AcceptedEvent};
 ghost use Rattle.serve_engine.specs.declared.turn.Turn.TheVariants.{On};
 ghost use Rattle.socket_source.specs.Steps.{IsWithin, octets_of};
 ghost use Rattle.serve_engine.specs.Events.{event_of, manner_of};
+ghost use Rattle.serve_engine.specs.Intakes.{StandsBy};
+ghost use Rattle.serve_engine.specs.Keepings.{Kept};
+ghost use Rattle.serve_engine.specs.Notes.{TellTurns, Telling, TellsTurn, told_in};
 ghost use Rattle.serve_engine.specs.Refusals.{KeepsSilent, kept_in, with_peer};
-ghost use Rattle.serve_engine.specs.Servers.{ServesRun, ServesTurn, intake_of, place_of};
+ghost use Rattle.serve_engine.specs.Servers.{ServesRun, ServesTurn, intake_of, place_of, told_of};
 ghost use Rattle.serve_engine.specs.Serving.{ClosesOwn, IsStepTurn, ServesStep, asks_commit, is_last};
 
 use crate::keeping::{Keeping, Pause};
@@ -50,6 +56,9 @@ impl<S: Store + Drop, K: Keeping<S> + Drop, N: Output + Drop, R: Output + Drop> 
         ensures silent { IfNone (event_of step (octets_of step buf.now))
             (KeepsSilent (asks_commit step) (with_peer step (kept_in R.state self.old.report))
             (kept_in R.state self.new.report)) }
+        ensures notes { (k : Kept) (first : List Entry) (before : List AcceptedEvent)
+            → StandsBy S.entries K.stands self.old.intake k first before
+            → TellsTurn (told_in N.state self.old.report) (told_in N.state self.new.report) }
     {
         match step {
             ServerStep::Opened {
@@ -98,6 +107,10 @@ impl<S: Store + Drop, K: Keeping<S> + Drop, N: Output + Drop, R: Output + Drop> 
             (place_of R.state K.short self.new (Q.state source.new)) }
         ensures manner { manner_of (intake_of self.new).collector
             ≡ manner_of (intake_of self.old).collector }
+        // Each note is written once, and a turn has few.
+        ensures notes { (k : Kept) (first : List Entry) (before : List AcceptedEvent)
+            → StandsBy S.entries K.stands (intake_of self.old) k first before
+            → TellsTurn (told_of N.state self.old) (told_of N.state self.new) }
     {
         if self.full {
             pause.pause();
@@ -123,6 +136,11 @@ impl<S: Store + Drop, K: Keeping<S> + Drop, N: Output + Drop, R: Output + Drop> 
             (place_of R.state K.short self.new (Q.state source.new)) }
         ensures manner { manner_of (intake_of self.new).collector
             ≡ manner_of (intake_of self.old).collector }
+        // Its notes are those of its turns.
+        ensures notes { (k : Kept) (first : List Entry) (before : List AcceptedEvent)
+            → StandsBy S.entries K.stands (intake_of self.old) k first before
+            → NoneWaits (intake_of self.old).collector → (turns : List Telling)
+            × TellTurns turns (told_of N.state self.old) (told_of N.state self.new) }
     {
         let Ok(mut buf) = vec![in alloc; 0u8; PIECE_MAX] else {
             return ServeEnd::Memory;

@@ -7,6 +7,7 @@ ghost use Rattle.syslog_collect.specs.History.{AcceptedEvent, Datagram, Ended, O
 ghost use Rattle.serve_engine.specs.Events.{Receives, bad_last, ends_in_bad_count, manner_of};
 ghost use Rattle.serve_engine.specs.Intakes.{StandsBy};
 ghost use Rattle.serve_engine.specs.Keepings.{Kept};
+ghost use Rattle.serve_engine.specs.Notes.{IsNote, Passes, TellsFew, TellsTurn, told_in};
 ghost use Rattle.serve_engine.specs.Paces.{PaysFor};
 ghost use Rattle.serve_engine.specs.Refusals.{KeepsSilent, kept_in, peer_counted};
 ghost use Rattle.serve_engine.specs.Serving.{Accepts, ClosesLost, CommitsAll, EndsUnlessFull, FaultsAs};
@@ -15,6 +16,7 @@ ghost use Rattle.serve_engine.specs.declared.serve_end.ServeEnd.TheVariants.{Dis
 ghost use Rattle.serve_engine.specs.declared.turn.Turn.TheVariants.{End, On};
 
 use crate::keeping::{KeepFault, Keeping};
+use crate::limits::STATUS_LINES;
 use crate::lines::{Happening, is_bad_count};
 use crate::peers::Way;
 use crate::serve_end::ServeEnd;
@@ -81,6 +83,7 @@ impl<S: Store + Drop, K: Keeping<S> + Drop, N: Output + Drop, R: Output + Drop> 
         ensures manner { manner_of self.new.intake.collector ≡ manner_of self.old.intake.collector }
         ensures full { self.new.full ≡ self.old.full }
         ensures turn { result ≡ On }
+        ensures notes { TellsTurn (told_in N.state self.old.report) (told_in N.state self.new.report) }
     {
         let way = Way::Stream(framing, peer);
         match self.intake.open(alloc, conn, framing) {
@@ -132,6 +135,9 @@ impl<S: Store + Drop, K: Keeping<S> + Drop, N: Output + Drop, R: Output + Drop> 
         ensures manner { manner_of self.new.intake.collector ≡ manner_of self.old.intake.collector }
         ensures full { self.new.full ≡ self.old.full }
         ensures turn { IsEventTurn result }
+        ensures notes { (k : Kept) (first : List Entry) (before : List AcceptedEvent)
+            → StandsBy S.entries K.stands self.old.intake k first before
+            → TellsTurn (told_in N.state self.old.report) (told_in N.state self.new.report) }
     {
         let way = self.peers.get(conn);
         self.report.begin_piece(way, octets.len());
@@ -163,6 +169,7 @@ impl<S: Store + Drop, K: Keeping<S> + Drop, N: Output + Drop, R: Output + Drop> 
         ensures manner { manner_of self.new.intake.collector ≡ manner_of self.old.intake.collector }
         ensures full { self.new.full ≡ self.old.full }
         ensures turn { result ≡ On }
+        ensures notes { TellsTurn (told_in N.state self.old.report) (told_in N.state self.new.report) }
     {
         let way = self.peers.get(conn);
         self.peers.set(conn, None);
@@ -183,6 +190,7 @@ impl<S: Store + Drop, K: Keeping<S> + Drop, N: Output + Drop, R: Output + Drop> 
         ensures manner { manner_of self.new.intake.collector ≡ manner_of self.old.intake.collector }
         ensures full { self.new.full ≡ self.old.full }
         ensures turn { result ≡ On }
+        ensures notes { TellsTurn (told_in N.state self.old.report) (told_in N.state self.new.report) }
     {
         let way = way_of(peer);
         let received = self.intake.receive(alloc, Event::Datagram { octets });
@@ -199,6 +207,7 @@ impl<S: Store + Drop, K: Keeping<S> + Drop, N: Output + Drop, R: Output + Drop> 
         ensures full { self.new.full ≡ self.old.full }
         ensures turn { result ≡ On }
         ensures kept { KeepsSilent false (kept_in R.state self.old.report) (kept_in R.state self.new.report) }
+        ensures notes { TellsTurn (told_in N.state self.old.report) (told_in N.state self.new.report) }
     {
         let way = Way::Stream(framing, peer);
         self.report.tell(alloc, way, Happening::TurnedAway);
@@ -212,6 +221,7 @@ impl<S: Store + Drop, K: Keeping<S> + Drop, N: Output + Drop, R: Output + Drop> 
         ensures turn { result ≡ On }
         ensures kept { KeepsSilent false (peer_counted (kept_in R.state self.old.report))
             (kept_in R.state self.new.report) }
+        ensures notes { TellsTurn (told_in N.state self.old.report) (told_in N.state self.new.report) }
     {
         self.report.not_allowed(alloc, peer);
         Turn::On
@@ -219,11 +229,14 @@ impl<S: Store + Drop, K: Keeping<S> + Drop, N: Output + Drop, R: Output + Drop> 
 
     // Nothing is read until what waits is committed, which is tried again. Why is told once.
     fn wait(&mut self, line: &[u8]) -> Turn
+        requires { IsNote line.now }
         ensures same { self.new.intake ≡ self.old.intake }
         ensures turn { result ≡ On }
         ensures full { self.new.full ≡ true }
         ensures told { self.new.told ≡ true }
         ensures kept { KeepsSilent false (kept_in R.state self.old.report) (kept_in R.state self.new.report) }
+        ensures notes { TellsFew 1 (N.state self.old.report.notes) (N.state self.new.report.notes) }
+        ensures pace { self.new.report.pace ≡ self.old.report.pace }
     {
         self.report.tell_waiting(line, self.told);
         self.told = true;
@@ -237,6 +250,8 @@ impl<S: Store + Drop, K: Keeping<S> + Drop, N: Output + Drop, R: Output + Drop> 
         ensures turn { FaultsAs fault self.new.full result }
         ensures told { TellsFull result self.old.told self.new.full self.new.told }
         ensures kept { KeepsSilent false (kept_in R.state self.old.report) (kept_in R.state self.new.report) }
+        ensures notes { TellsFew 1 (N.state self.old.report.notes) (N.state self.new.report.notes) }
+        ensures pace { self.new.report.pace ≡ self.old.report.pace }
     {
         match fault {
             KeepFault::Full => self.wait(b"store full\n"),
@@ -256,6 +271,8 @@ impl<S: Store + Drop, K: Keeping<S> + Drop, N: Output + Drop, R: Output + Drop> 
         ensures turn { IsCommitTurn result }
         ensures kept { KeepsSilent true (kept_in R.state self.old.report) (kept_in R.state self.new.report) }
         ensures told { TellsFull result self.old.told self.new.full self.new.told }
+        ensures notes { TellsFew 1 (N.state self.old.report.notes) (N.state self.new.report.notes) }
+        ensures pace { self.new.report.pace ≡ self.old.report.pace }
     {
         match self.intake.commit(alloc) {
             Ok(taken) => {
@@ -278,6 +295,8 @@ impl<S: Store + Drop, K: Keeping<S> + Drop, N: Output + Drop, R: Output + Drop> 
         ensures kept { KeepsSilent false (kept_in R.state self.old.report) (kept_in R.state self.new.report) }
         ensures told { IsToldFull self.old.full self.old.told
             → TellsFull result self.old.told self.new.full self.new.told }
+        ensures notes { TellsFew 1 (N.state self.old.report.notes) (N.state self.new.report.notes) }
+        ensures pace { self.new.report.pace ≡ self.old.report.pace }
     {
         if self.full || self.intake.keeper.journal_len() <= checkpoint_len {
             return Turn::On;
@@ -295,6 +314,7 @@ impl<S: Store + Drop, K: Keeping<S> + Drop, N: Output + Drop, R: Output + Drop> 
         ensures kept { KeepsSilent false (kept_in R.state self.old.report) (kept_in R.state self.new.report) }
         ensures pace { PaysFor self.old.report.pace self.new.report.pace millis }
         ensures told { self.new.told ≡ self.old.told }
+        ensures notes { TellsFew 1 (N.state self.old.report.notes) (N.state self.new.report.notes) }
     {
         self.report.tick(millis);
         self.waited = self.waited.saturating_add(u64::from(millis));
@@ -311,6 +331,8 @@ impl<S: Store + Drop, K: Keeping<S> + Drop, N: Output + Drop, R: Output + Drop> 
         ensures kept { KeepsSilent false (kept_in R.state self.old.report) (kept_in R.state self.new.report) }
         ensures told { self.old.full ≡ false → self.new.told ≡ false }
         ensures waits { self.old.full ≡ true → self.new ≡ self.old }
+        ensures notes { TellsFew 1 (N.state self.old.report.notes) (N.state self.new.report.notes) }
+        ensures pace { self.new.report.pace ≡ self.old.report.pace }
     {
         if !self.full {
             self.report.tell_room(self.told);
@@ -329,6 +351,8 @@ impl<S: Store + Drop, K: Keeping<S> + Drop, N: Output + Drop, R: Output + Drop> 
         ensures kept { KeepsSilent false (kept_in R.state self.old.report) (kept_in R.state self.new.report) }
         ensures told { IsToldFull self.old.full self.old.told → result ≡ On
             → self.new.told ≡ self.new.full }
+        ensures notes { TellsFew 2 (N.state self.old.report.notes) (N.state self.new.report.notes) }
+        ensures pace { self.new.report.pace ≡ self.old.report.pace }
     {
         match self.checkpoint(alloc, checkpoint_len) {
             Turn::On => {
@@ -347,6 +371,8 @@ impl<S: Store + Drop, K: Keeping<S> + Drop, N: Output + Drop, R: Output + Drop> 
         ensures turn { IsCommitTurn result }
         ensures kept { KeepsSilent true (kept_in R.state self.old.report) (kept_in R.state self.new.report) }
         ensures told { result ≡ On → self.new.told ≡ self.new.full }
+        ensures notes { TellsFew STATUS_LINES (N.state self.old.report.notes) (N.state self.new.report.notes) }
+        ensures pace { Passes millis self.old.report.pace self.new.report.pace }
     {
         match self.commit(alloc) {
             Turn::On => {
@@ -363,6 +389,8 @@ impl<S: Store + Drop, K: Keeping<S> + Drop, N: Output + Drop, R: Output + Drop> 
         ensures full { self.new.full ≡ self.old.full }
         ensures turn { EndsUnlessFull self.old.full end result }
         ensures kept { KeepsSilent false (kept_in R.state self.old.report) (kept_in R.state self.new.report) }
+        ensures notes { TellsFew 1 (N.state self.old.report.notes) (N.state self.new.report.notes) }
+        ensures pace { self.new.report.pace ≡ self.old.report.pace }
     {
         if self.full {
             return Turn::On;
@@ -379,6 +407,8 @@ impl<S: Store + Drop, K: Keeping<S> + Drop, N: Output + Drop, R: Output + Drop> 
         ensures turn { IsCommitTurn result ⊎ (result ≡ End end) }
         ensures last { result ≡ On → self.new.full ≡ true }
         ensures kept { KeepsSilent true (kept_in R.state self.old.report) (kept_in R.state self.new.report) }
+        ensures notes { TellsFew 2 (N.state self.old.report.notes) (N.state self.new.report.notes) }
+        ensures pace { self.new.report.pace ≡ self.old.report.pace }
     {
         match self.commit(alloc) {
             Turn::On => self.end_with(end),
@@ -394,6 +424,8 @@ impl<S: Store + Drop, K: Keeping<S> + Drop, N: Output + Drop, R: Output + Drop> 
         ensures turn { IsCommitTurn result }
         ensures kept { KeepsSilent true (kept_in R.state self.old.report) (kept_in R.state self.new.report) }
         ensures told { TellsFull result self.old.told self.new.full self.new.told }
+        ensures notes { TellsFew 1 (N.state self.old.report.notes) (N.state self.new.report.notes) }
+        ensures pace { self.new.report.pace ≡ self.old.report.pace }
     {
         match self.intake.reopen(alloc) {
             Ok(()) => self.commit(alloc),

@@ -8,3 +8,4 @@ pub mod Rounds
 pub mod Alternating
 pub mod Places
 pub mod Shares
+pub mod Marks

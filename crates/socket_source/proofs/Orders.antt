@@ -1,12 +1,13 @@
 -- Numbers that wait, in order.
 use Rattle.std.proofs.Common.{◌≡◌, ◌∙◌, ℕ, zero, suc, ◌+◌, ◌<◌, ◌≤◌, Bool, true, false, List, [], ◌∷◌, ◌++◌, length, take, drop}
 use Rattle.std.proofs.Common.{inl, inr, lit<, refl, sym, ap, subst, arith, Some}
+use Rattle.std.proofs.lemmas.Bool.{eq-eqb}
 use Rattle.std.specs.Prelude.{slice_get}
 use Rattle.std.proofs.lemmas.List.{length-take, take-take, take_all}
 use Rattle.std.proofs.Math.Seq.{take-append_seam}
-use Rattle.socket_source.specs.Runs.{Turn, TakesTurn, is_served, of_datagrams, of_other}
+use Rattle.socket_source.specs.Runs.{Turn, TakesTurn, is_of, is_served, of_datagrams, of_other}
 use Rattle.socket_source.specs.Waiting.{Keeps, KeepsOrder, Line, Queue, Serves, Stays, TakesFirst, Chooses, ComesBack, Returns}
-use Rattle.socket_source.specs.Waiting.{most_steps}
+use Rattle.socket_source.specs.Waiting.{most_steps, number_of}
 use Rattle.socket_source.specs.declared.limits.TheConstants.{DATAGRAMS_A_TURN}
 use Rattle.socket_source.specs.declared.ready_sockets.Chosen.{Chosen}
 use Rattle.socket_source.specs.declared.ready_sockets.Chosen.TheVariants as chosen
@@ -80,12 +81,13 @@ Keeps-then old mid new first more = record {
 
 -- a socket was chosen, and has had its step
 pub turn_of : (which : Chosen) (old mid new : Line) → Chooses (Some which) old mid → ComesBack which mid new
-    → (turn : Turn) × ((is_served turn ≡ true) × TakesTurn turn old new)
+    → (turn : Turn) × ((is_served turn ≡ true) × (is_of (number_of which) turn ≡ true) × TakesTurn turn old new)
 turn_of (chosen.Datagrams number) old mid new leaves back =
     let serves = serves_first number DATAGRAMS_A_TURN old.datagrams mid.datagrams new.datagrams (lit< tt) leaves.datagrams back.datagrams in (
       of_datagrams number serves.0,
       (
         refl,
+        eq-eqb number number refl,
         record {
           may = leaves.may;
           datagrams = serves.1;
@@ -102,6 +104,7 @@ turn_of (chosen.Other number) old mid new leaves back =
       of_other number serves.0,
       (
         refl,
+        eq-eqb number number refl,
         record {
           may = leaves.may;
           datagrams = Stays-then old.datagrams mid.datagrams new.datagrams leaves.datagrams back.datagrams;

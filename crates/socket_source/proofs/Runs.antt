@@ -1,11 +1,13 @@
 -- Runs of turns.
 use Rattle.std.proofs.Common.{◌≡◌, ◌∙◌, ℕ, ◌<◌, true, false, List, [], ◌∷◌, ◌++◌, inl, inr, refl, sym, ap, subst, arith, Some, None}
-use Rattle.std.specs.Prelude.{Option, IfNone, IfSome, ◌||◌}
+use Rattle.std.specs.Prelude.{Bool, Option, IfNone, IfSome, ◌||◌}
 use Rattle.std.proofs.lemmas.Bool.{cases_lt}
 use Rattle.socket_source.proofs.Orders.{Keeps-then}
-use Rattle.socket_source.specs.Runs.{Turn, TakesTurn, Turns, HasTurns, IsServed, ServesAny, is_served, some_served, no_step}
-use Rattle.socket_source.specs.Runs.{of_datagrams, of_other}
-use Rattle.socket_source.specs.Sockets.{IsOf}
+use Rattle.socket_source.specs.Runs.{Turn, TakesTurn, Turns, HasTurns, IsOwn, IsServed, ServesAny, connection_number}
+use Rattle.socket_source.specs.Runs.{is_of, is_served, listener_number, no_step, of_datagrams, of_other, some_of}
+use Rattle.socket_source.specs.Runs.{some_served}
+use Rattle.socket_source.specs.Sockets.{IsEnd}
+use Rattle.socket_source.specs.Steps.{Standing}
 use Rattle.socket_source.specs.Lines.{Asks, Passes, line}
 use Rattle.socket_source.specs.Waiting.{Keeps, Line}
 use Rattle.socket_source.specs.declared.sockets.Sockets.{Sockets}
@@ -24,72 +26,108 @@ some_served-behind (no_step ∷ ts) us some = some_served-behind ts us some
 some_served-behind (of_datagrams number ends ∷ ts) us some = refl
 some_served-behind (of_other number ends ∷ ts) us some = refl
 
-pub IsServed-behind : (ts us : List Turn) (step : ServerStep) → IsServed step us → IsServed step (ts ++ us)
-IsServed-behind ts us (Opened conn listener framing peer) is = some_served-behind ts us is
-IsServed-behind ts us (Piece conn len) is = tt
-IsServed-behind ts us (Ended conn end) is = tt
-IsServed-behind ts us (Datagram listener peer len) is = some_served-behind ts us is
-IsServed-behind ts us (TurnedAway listener framing peer) is = some_served-behind ts us is
-IsServed-behind ts us (NotAllowed listener peer) is = some_served-behind ts us is
-IsServed-behind ts us Tick is = tt
-IsServed-behind ts us InputEnded is = some_served-behind ts us is
-IsServed-behind ts us Finished is = tt
-IsServed-behind ts us (Failed fault) is = tt
+or_true : (b c : Bool) → c ≡ true → (b || c) ≡ true
+or_true true c is = refl
+or_true false c is = is
 
--- a socket had a step
-pub IsServed-some : (ts : List Turn) (step : ServerStep) → some_served ts ≡ true → IsServed step ts
-IsServed-some ts (Opened conn listener framing peer) some = some
-IsServed-some ts (Piece conn len) some = tt
-IsServed-some ts (Ended conn end) some = tt
-IsServed-some ts (Datagram listener peer len) some = some
-IsServed-some ts (TurnedAway listener framing peer) some = some
-IsServed-some ts (NotAllowed listener peer) some = some
-IsServed-some ts Tick some = tt
-IsServed-some ts InputEnded some = some
-IsServed-some ts Finished some = tt
-IsServed-some ts (Failed fault) some = tt
+some_of-behind : (number : ℕ) (ts us : List Turn) → some_of number us ≡ true → some_of number (ts ++ us) ≡ true
+some_of-behind number [] us some = some
+some_of-behind number (t ∷ ts) us some = or_true (is_of number t) (some_of number (ts ++ us))
+    (some_of-behind number ts us some)
 
--- what a connection gives may come out of turn
-pub IsServed-of : (conn : ℕ) (step : ServerStep) → IsOf conn step → IsServed step []
-IsServed-of conn (Opened c listener framing peer) of = absurd of
-IsServed-of conn (Piece c len) of = tt
-IsServed-of conn (Ended c end) of = tt
-IsServed-of conn (Datagram listener peer len) of = absurd of
-IsServed-of conn (TurnedAway listener framing peer) of = absurd of
-IsServed-of conn (NotAllowed listener peer) of = absurd of
-IsServed-of conn Tick of = absurd of
-IsServed-of conn InputEnded of = absurd of
-IsServed-of conn Finished of = absurd of
-IsServed-of conn (Failed fault) of = absurd of
+pub IsServed-behind : (n : ℕ) (ts us : List Turn) (step : ServerStep) → IsServed n step us → IsServed n step (ts ++ us)
+IsServed-behind n ts us (Opened conn listener framing peer) is = some_served-behind ts us is
+IsServed-behind n ts us (Piece conn len) is = some_of-behind (connection_number n conn) ts us is
+IsServed-behind n ts us (Ended conn end) is = tt
+IsServed-behind n ts us (Datagram listener peer len) is = some_of-behind (listener_number listener) ts us is
+IsServed-behind n ts us (TurnedAway listener framing peer) is = some_served-behind ts us is
+IsServed-behind n ts us (NotAllowed listener peer) is = some_served-behind ts us is
+IsServed-behind n ts us Tick is = tt
+IsServed-behind n ts us InputEnded is = some_served-behind ts us is
+IsServed-behind n ts us Finished is = tt
+IsServed-behind n ts us (Failed fault) is = tt
+
+own_turn : (number own : ℕ) (turn : Turn) → is_of number turn ≡ true → number ≡ own → some_of own (turn ∷ []) ≡ true
+own_turn number own turn is same =
+    subst (λ (k : ℕ). (is_of k turn || false) ≡ true) same (ap (λ (b : Bool). b || false) is)
+
+-- the socket with this number had a step
+IsServed-one : (n number : ℕ) (turn : Turn) (step : ServerStep) → is_served turn ≡ true → is_of number turn ≡ true
+    → IsOwn n number step → IsServed n step (turn ∷ [])
+IsServed-one n number turn (Opened conn listener framing peer) some is own = ap (λ (b : Bool). b || false) some
+IsServed-one n number turn (Piece conn len) some is own = own_turn number (connection_number n conn) turn is own
+IsServed-one n number turn (Ended conn end) some is own = tt
+IsServed-one n number turn (Datagram listener peer len) some is own = own_turn number
+    (listener_number listener) turn is own
+IsServed-one n number turn (TurnedAway listener framing peer) some is own = ap (λ (b : Bool). b || false) some
+IsServed-one n number turn (NotAllowed listener peer) some is own = ap (λ (b : Bool). b || false) some
+IsServed-one n number turn Tick some is own = tt
+IsServed-one n number turn InputEnded some is own = ap (λ (b : Bool). b || false) some
+IsServed-one n number turn Finished some is own = tt
+IsServed-one n number turn (Failed fault) some is own = tt
+
+-- the end of a connection may come out of turn
+IsServed-end : (n : ℕ) (step : ServerStep) → IsEnd step → IsServed n step []
+IsServed-end n (Opened c listener framing peer) is = absurd is
+IsServed-end n (Piece c len) is = absurd is
+IsServed-end n (Ended c end) is = tt
+IsServed-end n (Datagram listener peer len) is = absurd is
+IsServed-end n (TurnedAway listener framing peer) is = absurd is
+IsServed-end n (NotAllowed listener peer) is = absurd is
+IsServed-end n Tick is = absurd is
+IsServed-end n InputEnded is = absurd is
+IsServed-end n Finished is = absurd is
+IsServed-end n (Failed fault) is = absurd is
 
 -- no socket had a step
-pub turns_kept : (step : Option ServerStep) (old new : Line) → Keeps old new → IfSome step (λ s. IsServed s []) → HasTurns step old new
-turns_kept None old new keeps unserved = (no_step ∷ [], ((new, (keeps, refl)), tt))
-turns_kept (Some step) old new keeps unserved = (
+pub turns_kept : (n : ℕ) (step : Option ServerStep) (old new : Line) → Keeps old new
+    → IfSome step (λ s. (m : ℕ) → IsServed m s []) → HasTurns n step old new
+turns_kept n None old new keeps unserved = (no_step ∷ [], ((new, (keeps, refl)), tt))
+turns_kept n (Some step) old new keeps unserved = (
   no_step ∷ [],
-  ((new, (keeps, refl)), IsServed-behind (no_step ∷ []) [] step unserved),
+  ((new, (keeps, refl)), IsServed-behind n (no_step ∷ []) [] step (unserved n)),
 )
+
+pub turns_ended : (n : ℕ) (step : ServerStep) (old new : Line) → Keeps old new → IsEnd step → HasTurns n
+    (Some step) old new
+turns_ended n step old new keeps is = turns_kept n (Some step) old new keeps (λ m. IsServed-end m step is)
 
 -- one run behind another, of which a step comes
-pub turns_then : (step : Option ServerStep) (old mid new : Line) → HasTurns None old mid → HasTurns step mid new → HasTurns step old new
-turns_then None old mid new first more = (first.0 ++ more.0, (Turns-append first.0 more.0 old mid new first.1.0 more.1.0, tt))
-turns_then (Some step) old mid new first more = (
+pub turns_then : (n : ℕ) (step : Option ServerStep) (old mid new : Line) → HasTurns n None old mid
+    → HasTurns n step mid new
+    → HasTurns n step old new
+turns_then n None old mid new first more =
+    (first.0 ++ more.0, (Turns-append first.0 more.0 old mid new first.1.0 more.1.0, tt))
+turns_then n (Some step) old mid new first more = (
   first.0 ++ more.0,
-  (Turns-append first.0 more.0 old mid new first.1.0 more.1.0, IsServed-behind first.0 more.0 step more.1.1),
+  (Turns-append first.0 more.0 old mid new first.1.0 more.1.0, IsServed-behind n first.0 more.0 step more.1.1),
 )
 
--- one turn
-turns_one : (step : Option ServerStep) (turn : Turn) (old new : Line) → is_served turn ≡ true → TakesTurn turn old new
-    → HasTurns step old new
-turns_one None turn old new is takes = (turn ∷ [], ((new, (takes, refl)), tt))
-turns_one (Some step) turn old new is takes = (
+-- one turn, of the socket with this number
+turns_one : (n number : ℕ) (step : Option ServerStep) (turn : Turn) (old new : Line) → is_served turn ≡ true
+    → is_of number turn ≡ true → TakesTurn turn old new → IfSome step (IsOwn n number) → HasTurns n step old new
+turns_one n number None turn old new some is takes own = (turn ∷ [], ((new, (takes, refl)), tt))
+turns_one n number (Some step) turn old new some is takes own = (
   turn ∷ [],
-  ((new, (takes, refl)), IsServed-some (turn ∷ []) step (ap (λ b. b || false) is)),
+  ((new, (takes, refl)), IsServed-one n number turn step some is own),
 )
 
-pub turns_of : (step : Option ServerStep) (old new : Line) → (turn : Turn) × ((is_served turn ≡ true) × TakesTurn turn old new)
-    → HasTurns step old new
-turns_of step old new (turn, (is, takes)) = turns_one step turn old new is takes
+pub turns_of : (n number : ℕ) (step : Option ServerStep) (old new : Line)
+    → (turn : Turn) × ((is_served turn ≡ true) × (is_of number turn ≡ true) × TakesTurn turn old new)
+    → IfSome step (IsOwn n number) → HasTurns n step old new
+turns_of n number step old new (turn, (some, is, takes)) own = turns_one n number step turn old new some is takes own
+
+-- and so it serves any
+pub serves_of : (number : ℕ) (old new : Line)
+    → (turn : Turn) × ((is_served turn ≡ true) × (is_of number turn ≡ true) × TakesTurn turn old new)
+    → ServesAny old new
+serves_of number old new (turn, (some, is, takes)) = inr (turn, (some, takes))
+
+-- where no step came, nothing is open that was not
+pub turns_at : (old mid : Standing) (step : Option ServerStep) (a b : Line) → mid ≡ old
+    → HasTurns mid.listeners step a b
+    → HasTurns old.listeners step a b
+turns_at old mid step a b same turns = subst (λ (s : Standing). HasTurns s.listeners step a b) same turns
 
 asks_before : {R : Type 0} (old mid new : Sockets R) → Keeps (line old) (line mid) → mid.round ≡ old.round → Asks mid new → Asks old new
 asks_before old mid new keeps same asks = record {
@@ -115,6 +153,7 @@ passes_early old new (Some step) early = tt
 passes_early old new None early = inl early
 
 -- no turn
-pub turns_none : (step : Option ServerStep) (l : Line) → IfSome step (λ s. IsServed s []) → HasTurns step l l
-turns_none None l is = ([], (refl, tt))
-turns_none (Some step) l is = ([], (refl, is))
+pub turns_none : (n : ℕ) (step : Option ServerStep) (l : Line) → IfSome step (λ s. IsServed n s [])
+    → HasTurns n step l l
+turns_none n None l is = ([], (refl, tt))
+turns_none n (Some step) l is = ([], (refl, is))

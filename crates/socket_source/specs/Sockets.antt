@@ -40,6 +40,19 @@ IsOf conn InputEnded = ⊥
 IsOf conn Finished = ⊥
 IsOf conn (Failed fault) = ⊥
 
+-- the step ends a connection
+abbrev pub IsEnd : ServerStep → Type 0
+IsEnd (Opened conn listener framing peer) = ⊥
+IsEnd (step.Piece conn len) = ⊥
+IsEnd (step.Ended conn e) = Unit {0}
+IsEnd (Datagram listener peer len) = ⊥
+IsEnd (TurnedAway listener framing peer) = ⊥
+IsEnd (NotAllowed listener peer) = ⊥
+IsEnd Tick = ⊥
+IsEnd InputEnded = ⊥
+IsEnd Finished = ⊥
+IsEnd (Failed fault) = ⊥
+
 -- the step is of this listener
 abbrev pub IsAt : ℕ → ServerStep → Type 0
 IsAt listener (Opened conn l framing peer) = l ≡ listener

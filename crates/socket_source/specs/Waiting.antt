@@ -139,6 +139,11 @@ pub record ReturnsOther (number : ℕ) (old new : Line) : Type 0 where
   pub between : new.between ≡ old.between
   pub listeners : new.listeners ≡ old.listeners
 
+-- its number
+abbrev pub number_of : Chosen → ℕ
+number_of (chosen.Datagrams number) = number
+number_of (chosen.Other number) = number
+
 abbrev pub ComesBack : Chosen → Line → Line → Type 0
 ComesBack (chosen.Datagrams number) old new = ReturnsDatagram number old new
 ComesBack (chosen.Other number) old new = ReturnsOther number old new

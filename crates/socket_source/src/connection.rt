@@ -47,6 +47,11 @@ fn take(mut stream: &TcpStream, buf: &mut [u8]) -> Reading
 }
 
 impl Connection {
+    /// Whether something waits, which is left for the next read.
+    pub(crate) fn look(&self) -> Reading {
+        peek(&self.stream, &mut [0u8])
+    }
+
     /// Reads a share of what waits into the front of a slice; the rest stays in the system's buffer.
     /// What is read is read again into `spent`, and so taken from there.
     pub(crate) fn read(&self, share: Share, buf: &mut [u8], spent: &mut [u8]) -> Reading

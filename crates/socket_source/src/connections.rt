@@ -132,16 +132,17 @@ impl Connections {
         self.streams.contains(conn as usize)
     }
 
-    /// Reads a share of what a connection has. One that is silent, and has nothing to read, has
-    /// ended.
-    pub(crate) fn read(
-        &mut self,
-        conn: u32,
-        is_silent: bool,
-        share: Share,
-        now: Instant,
-        buf: &mut [u8],
-    ) -> Reading
+    /// Whether a connection that is silent has something to read, which is left for its turn. One that
+    /// has nothing has ended. None if no connection is open under the number.
+    pub(crate) fn look(&self, conn: u32) -> Option<Reading>
+        ensures { IfSome result (λ reading. open_in self.now.streams conn ≡ true) }
+    {
+        let connection = self.streams.get(conn as usize)?;
+        Some(ended_if_dry(connection.look()))
+    }
+
+    /// Reads a share of what a connection has.
+    pub(crate) fn read(&mut self, conn: u32, share: Share, now: Instant, buf: &mut [u8]) -> Reading
         requires { 0 < share.frames }
         ensures within { ReadsWithin (length buf.new) result }
         ensures bounded { IfSome (framing_in self.new.streams conn) (λ framing. ReadsFront share framing buf.new result) }
@@ -156,11 +157,7 @@ impl Connections {
         if matches!(reading, Reading::Piece(_)) {
             self.note_heard(key, now);
         }
-        if is_silent {
-            ended_if_dry(reading)
-        } else {
-            reading
-        }
+        reading
     }
 
     /// Closes a connection, if one is open under the number.

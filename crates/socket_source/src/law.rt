@@ -1,7 +1,10 @@
-//! Laws of turns, as contracts of functions that do nothing.
-ghost use Rattle.std.specs.Prelude.{◌≡◌, ℕ, ◌*◌, ◌<◌, ◌≤◌, List, [], length, slice_get};
+//! Laws of turns and of what they give, as contracts of functions that do nothing.
+ghost use Rattle.std.specs.Prelude.{◌≡◌, ℕ, ◌+◌, ◌*◌, ◌++◌, ◌<◌, ◌≤◌, List, [], length, slice_get};
 ghost use Rattle.socket_source.specs.Runs.{Turn, Turns, ended, ends_of_datagrams, ends_of_others};
+ghost use Rattle.socket_source.specs.Turns.{marks};
 ghost use Rattle.socket_source.specs.Waiting.{KeepsOrder, Line, steps_had};
+ghost use Rattle.syslog_frame.specs.Frames.{Frames};
+ghost use Rattle.syslog_frame.specs.declared.framing.Framing.TheVariants.{Counted, Lf};
 
 use crate::limits::{ACCEPTS_A_TURN, DATAGRAMS_A_TURN, STEPS_BETWEEN};
 
@@ -44,4 +47,14 @@ pub fn queues_alternate()
     ensures others { (turns : List Turn) (old new : Line) → Turns turns old new
         → 0 < length old.datagrams.numbers
         → ends_of_datagrams turns ≡ [] → length (ends_of_others turns) ≤ STEPS_BETWEEN }
+{}
+
+/// Octets of a stream complete no more frames than they have ends of lines, or counts before frames and
+/// one: the count of the first frame may have come before.
+pub fn marks_bound_frames()
+    ensures lines { (before octets : List ℕ) (old new : List (List ℕ)) (r q : List ℕ) → Frames Lf before old r
+        → Frames Lf (before ++ octets) new q → length new ≤ length old + marks Lf octets (length octets) }
+    ensures counted { (before octets : List ℕ) (old new : List (List ℕ)) (r q : List ℕ) → Frames Counted before old r
+        → Frames Counted (before ++ octets) new q
+        → length new ≤ length old + marks Counted octets (length octets) + 1 }
 {}

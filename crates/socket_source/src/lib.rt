@@ -33,7 +33,7 @@ mod step;
 mod system;
 mod unix_path;
 
-pub use law::{queues_alternate, turn_comes, turns_end, turns_in_order};
+pub use law::{marks_bound_frames, queues_alternate, turn_comes, turns_end, turns_in_order};
 pub use limits::{
     ACCEPTS_A_TURN, CONNECTIONS_MAX, DATAGRAM_TURNS_A_ROUND, DATAGRAMS_A_TURN, LEAST_FRAMES,
     LEAST_OCTETS, PIECE_MAX, ROUND_FRAMES, ROUND_OCTETS, STEPS_BETWEEN, TURN_FRAMES, TURN_OCTETS,

@@ -1,11 +1,14 @@
 //! The sockets that are listened on, and those that are open.
-ghost use Rattle.std.specs.Prelude.{◌≡◌, ◌<◌, ◌≤◌, false, true, length, slice_get, vec_len, IfNone, IfSome, IsSome, None};
+ghost use Rattle.std.specs.Prelude.{◌≡◌, ℕ, ◌+◌, ◌<◌, ◌≤◌, false, true, length, slice_get, vec_len, IfNone, IfSome};
+ghost use Rattle.std.specs.Prelude.{IsSome, None};
 ghost use Rattle.socket_source.specs.Kinds.{is_addressed};
-ghost use Rattle.socket_source.specs.Sockets.{HasSender, IsAt, IsAtOrDisplaced, IsOf};
+ghost use Rattle.socket_source.specs.Runs.{IsOwn};
+ghost use Rattle.socket_source.specs.Sockets.{HasSender, IsAt, IsAtOrDisplaced, IsEnd, IsOf};
 ghost use Rattle.peer_rules.specs.AllowLists.{networks_of};
 ghost use Rattle.socket_source.specs.Steps.{Becomes, IfLawful, IsLawful, is_peer, is_sender, without_open};
 ghost use Rattle.socket_source.specs.Turns.{IsWithinShare};
-ghost use Rattle.socket_source.specs.declared.step.ServerStep.TheVariants.{Datagram, NotAllowed};
+ghost use Rattle.socket_source.specs.declared.refusal.Retry.TheVariants.{Reported};
+ghost use Rattle.socket_source.specs.declared.step.ServerStep.TheVariants.{Datagram, Ended, NotAllowed};
 
 use crate::allowed::is_peer;
 use crate::bound::{Bound, accept_from, receive};
@@ -107,6 +110,7 @@ impl OpenSockets {
         ensures at { IsAt listener result }
         ensures elsewhere { is_peer (networks_of self.old.allowed) accepted.1 ≡ false
             → result ≡ NotAllowed listener accepted.1 }
+        ensures own { (listeners number : ℕ) → IsOwn listeners number result }
     {
         let (stream, peer) = accepted;
         if !is_peer(&self.allowed, peer) {
@@ -182,6 +186,7 @@ impl OpenSockets {
         ensures lawful { IfLawful (standing_of self.old) (standing_of self.new) 0 result }
         ensures none { IfNone result (self.new ≡ record self.old { arrived = None }) }
         ensures one { IsSome result → IsSome self.old.arrived }
+        ensures own { IfSome result (λ step. (listeners number : ℕ) → IsOwn listeners number step) }
     {
         let Arrived {
             listener,
@@ -283,16 +288,30 @@ impl OpenSockets {
         self.connections.close(conn);
     }
 
-    /// Reads a share of a connection, if one is open under the number. One that is silent, and has
-    /// nothing to read, ends.
-    pub(crate) fn read(
-        &mut self,
-        conn: u32,
-        is_silent: bool,
-        share: Share,
-        now: Instant,
-        buf: &mut [u8],
-    ) -> Taken
+    // What a connection comes to that has ended.
+    fn end(&mut self, conn: u32, end: ConnectionEnd) -> Taken
+        ensures becomes { Becomes (standing_of self.old) (standing_of self.new)
+            (without_open conn (standing_of self.old).live) }
+        ensures ended { result ≡ record { step = Some (Ended conn end); retry = Reported } }
+    {
+        self.close(conn);
+        Taken::some(ServerStep::Ended { conn, end }, Retry::Reported)
+    }
+
+    /// Ends a connection that is silent, if nothing waits on it. What waits is left for its turn.
+    pub(crate) fn end_silent(&mut self, conn: u32) -> Taken
+        ensures lawful { IfLawful (standing_of self.old) (standing_of self.new) 0 result.step }
+        ensures unserved { IfSome result.step IsEnd }
+    {
+        match self.connections.look(conn) {
+            Some(Reading::Ended(end)) => self.end(conn, end),
+            Some(Reading::Piece(_) | Reading::Again) => Taken::none(Retry::Now),
+            Some(Reading::Dry) | None => Taken::none(Retry::Reported),
+        }
+    }
+
+    /// Reads a share of a connection, if one is open under the number.
+    pub(crate) fn read(&mut self, conn: u32, share: Share, now: Instant, buf: &mut [u8]) -> Taken
         requires { 0 < share.frames }
         ensures of { IfSome result.step (IsOf conn) }
         ensures lawful { IfLawful (standing_of self.old) (standing_of self.new) (length buf.new) result.step }
@@ -301,12 +320,9 @@ impl OpenSockets {
         if !self.connections.is_open(conn) {
             return Taken::none(Retry::Reported);
         }
-        match self.connections.read(conn, is_silent, share, now, buf) {
+        match self.connections.read(conn, share, now, buf) {
             Reading::Piece(len) => Taken::some(ServerStep::Piece { conn, len }, Retry::Now),
-            Reading::Ended(end) => {
-                self.close(conn);
-                Taken::some(ServerStep::Ended { conn, end }, Retry::Reported)
-            }
+            Reading::Ended(end) => self.end(conn, end),
             Reading::Again => Taken::none(Retry::Now),
             Reading::Dry => Taken::none(Retry::Reported),
         }
@@ -325,6 +341,7 @@ impl OpenSockets {
         ensures bounded { IfSome result.step (IsWithinShare share (framings_of self.new) buf.new) }
         ensures from { IfSome (slice_get self.old.listeners.items socket) (λ bound.
             is_addressed bound ≡ true → IfSome result.step HasSender) }
+        ensures own { IfSome result.step (IsOwn (vec_len self.old.listeners) (socket + 1)) }
     {
         match self.listeners.get(socket) {
             Some(Bound::Streams { .. }) => match self.admit_arrived(now) {
@@ -335,7 +352,7 @@ impl OpenSockets {
             None => {
                 let conn = socket.saturating_sub(self.listeners.len());
                 match u32::try_from(conn) {
-                    Ok(conn) => self.read(conn, false, share, now, buf),
+                    Ok(conn) => self.read(conn, share, now, buf),
                     Err(_) => Taken::none(Retry::Reported),
                 }
             }

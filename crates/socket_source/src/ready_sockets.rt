@@ -2,6 +2,7 @@
 ghost use Rattle.std.specs.Prelude.{◌≡◌, ◌+◌, ◌<◌, ◌≤◌, false, true, length, map, min, vec_len, IfOk};
 ghost use Rattle.socket_source.specs.Kinds.{is_datagrams};
 ghost use Rattle.socket_source.specs.Waiting.{Chooses, ComesBack, Keeps, MayTakeDatagram, MayTakeOther, most_steps};
+ghost use Rattle.socket_source.specs.Waiting.{number_of};
 
 use crate::bound::Bound;
 use crate::limits::{ACCEPTS_A_TURN, DATAGRAM_TURNS_A_ROUND, DATAGRAMS_A_TURN, STEPS_BETWEEN};
@@ -20,7 +21,9 @@ pub(crate) enum Chosen {
 
 impl Chosen {
     /// Its number.
-    pub(crate) fn number(self) -> usize {
+    pub(crate) fn number(self) -> usize
+        ensures { result ≡ number_of self }
+    {
         match self {
             Chosen::Datagrams(number) | Chosen::Other(number) => number,
         }

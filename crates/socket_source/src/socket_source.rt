@@ -85,8 +85,10 @@ impl<'a, R: Clock> ServerSource for SocketSource<'a, R> {
             (⟦<SocketSource<'a, R> as ServerSource>⟧.state self.new) result buf.new }
         // A turn gives a part of what a connection has: a smaller one, the more sockets are ready.
         ensures bounded { IsBounded (ready_in (line self.new.sockets)) (framings self.new.sockets) buf.new result }
-        // Sockets have their turns in order, each a bounded number of steps.
-        ensures turns { HasTurns (Some result) (line self.old.sockets) (line self.new.sockets) }
+        // Sockets have their turns in order, each a bounded number of steps, and octets come of a turn of
+        // their own socket.
+        ensures turns { HasTurns (standing self.old.sockets).listeners (Some result)
+            (line self.old.sockets) (line self.new.sockets) }
     {
         let step = self.sockets.next_step(buf);
         self.counts.count(step);

@@ -1,11 +1,12 @@
 //! The sockets of the system, in one loop without threads.
-ghost use Rattle.std.specs.Prelude.{◌≡◌, ◌+◌, ◌<◌, ◌≤◌, true, [], length, max, min, IfErr, IfNone, IfOk, IfSome};
+ghost use Rattle.std.specs.Prelude.{◌≡◌, ℕ, ◌+◌, ◌<◌, ◌≤◌, true, [], length, max, min, IfErr, IfNone, IfOk, IfSome};
 ghost use Rattle.socket_source.specs.Opens.{IsFaultOf};
-ghost use Rattle.socket_source.specs.Runs.{HasTurns, IsServed, ServesAny};
+ghost use Rattle.socket_source.specs.Runs.{HasTurns, IsOwn, IsServed, ServesAny};
 ghost use Rattle.socket_source.specs.Shares.{IsShareOf};
+ghost use Rattle.socket_source.specs.Sockets.{IsEnd};
 ghost use Rattle.socket_source.specs.Steps.{Becomes, IfLawful, IsLawful, IsVacant, without_open};
 ghost use Rattle.socket_source.specs.Turns.{IfPiece, IsBounded};
-ghost use Rattle.socket_source.specs.Waiting.{ComesBack, Keeps};
+ghost use Rattle.socket_source.specs.Waiting.{ComesBack, Keeps, number_of};
 
 use crate::connections::Connections;
 use crate::input::{InputTurn, read_input, watch_input};
@@ -126,7 +127,7 @@ impl<'a, R: Clock> Sockets<'a, R> {
     fn tick(&mut self, now: Instant) -> Option<ServerStep>
         ensures lawful { IfLawful (standing self.old) (standing self.new) 0 result }
         ensures order { Keeps (line self.old) (line self.new) }
-        ensures unserved { IfSome result (λ step. IsServed step []) }
+        ensures unserved { IfSome result (λ step. (n : ℕ) → IsServed n step []) }
         ensures early { IfNone result (self.new.early < self.old.early) }
     {
         self.ticked = now;
@@ -143,7 +144,7 @@ impl<'a, R: Clock> Sockets<'a, R> {
     fn tick_at_once(&mut self) -> ServerStep
         ensures lawful { IsLawful (standing self.old) (standing self.new) 0 result }
         ensures order { Keeps (line self.old) (line self.new) }
-        ensures unserved { IsServed result [] }
+        ensures unserved { (n : ℕ) → IsServed n result [] }
     {
         self.early = self.early.saturating_add(1).min(EARLY_MAX);
         ServerStep::Tick
@@ -220,18 +221,16 @@ impl<'a, R: Clock> Sockets<'a, R> {
     }
 
     // Ends a connection that has given nothing for too long, and has nothing to read. What waits is
-    // read first: it may have come while the process was stopped.
-    fn take_silent(&mut self, now: Instant, buf: &mut [u8]) -> Option<ServerStep>
-        ensures lawful { IfLawful (standing self.old) (standing self.new) (length buf.new) result }
-        ensures bounded { IfSome result (IsBounded (ready_in (line self.new)) (framings self.new) buf.new) }
+    // read in its turn: it may have come while the process was stopped.
+    fn take_silent(&mut self, now: Instant) -> Option<ServerStep>
+        ensures lawful { IfLawful (standing self.old) (standing self.new) 0 result }
         ensures order { Keeps (line self.old) (line self.new) }
         ensures round { self.new.round ≡ self.old.round }
-        ensures unserved { IfSome result (λ step. IsServed step []) }
+        ensures ends { IfSome result IsEnd }
     {
         let conn = self.find_silent(now)?;
         let number = self.socket_number(conn);
-        let share = self.share();
-        let taken = self.held.read(conn, true, share, now, buf);
+        let taken = self.held.end_silent(conn);
         self.queue(number, taken.retry);
         self.use_room(taken.step);
         taken.step
@@ -242,7 +241,7 @@ impl<'a, R: Clock> Sockets<'a, R> {
         requires { (standing self.old).live conn ≡ true }
         ensures lawful { IsLawful (standing self.old) (standing self.new) 0 result }
         ensures order { Keeps (line self.old) (line self.new) }
-        ensures unserved { IsServed result [] }
+        ensures unserved { (n : ℕ) → IsServed n result [] }
     {
         self.release(conn);
         ServerStep::Ended { conn, end }
@@ -252,7 +251,7 @@ impl<'a, R: Clock> Sockets<'a, R> {
     fn finish(&mut self, now: Instant) -> ServerStep
         ensures lawful { IsLawful (standing self.old) (standing self.new) 0 result }
         ensures order { Keeps (line self.old) (line self.new) }
-        ensures unserved { IsServed result [] }
+        ensures unserved { (n : ℕ) → IsServed n result [] }
     {
         match self.held.connections.find_idle(0, now, Duration::ZERO) {
             Some(conn) => self.end(conn, ConnectionEnd::Closed),
@@ -277,7 +276,7 @@ impl<'a, R: Clock> Sockets<'a, R> {
     fn ask(&mut self, now: Instant) -> Option<ServerStep>
         ensures lawful { IfLawful (standing self.old) (standing self.new) 0 result }
         ensures order { Keeps (line self.old) (line self.new) }
-        ensures unserved { IfSome result (λ step. IsServed step []) }
+        ensures unserved { IfSome result (λ step. (n : ℕ) → IsServed n step []) }
         ensures round { IfNone result (self.new.round ≡ min (ready_in (line self.new)) ROUND_MAX) }
     {
         let patience = self.patience(now);
@@ -301,6 +300,7 @@ impl<'a, R: Clock> Sockets<'a, R> {
     fn take_input(&mut self, now: Instant, buf: &mut [u8]) -> Taken
         ensures lawful { IfLawful (standing self.old) (standing self.new) 0 result.step }
         ensures bounded { IfSome result.step (IsBounded 1 (framings self.new) buf.new) }
+        ensures own { (listeners number : ℕ) → IfSome result.step (IsOwn listeners number) }
         ensures ready { self.new.ready ≡ self.old.ready }
     {
         match read_input(buf) {
@@ -318,6 +318,7 @@ impl<'a, R: Clock> Sockets<'a, R> {
         ensures lawful { IfLawful (standing self.old) (standing self.new) (length buf.new) result }
         ensures bounded { IfSome result (IsBounded (ready_in (line self.new)) (framings self.new) buf.new) }
         ensures comes_back { ComesBack chosen (line self.old) (line self.new) }
+        ensures own { IfSome result (IsOwn (standing self.old).listeners (number_of chosen)) }
     {
         match chosen.number().checked_sub(1) {
             Some(socket) => {
@@ -349,7 +350,7 @@ impl<'a, R: Clock> Sockets<'a, R> {
     fn turn(&mut self, buf: &mut [u8]) -> Option<ServerStep>
         ensures lawful { IfLawful (standing self.old) (standing self.new) (length buf.new) result }
         ensures bounded { IfSome result (IsBounded (ready_in (line self.new)) (framings self.new) buf.new) }
-        ensures turns { HasTurns result (line self.old) (line self.new) }
+        ensures turns { HasTurns (standing self.old).listeners result (line self.old) (line self.new) }
         ensures passes { IfNone result (Passes self.old self.new) }
     {
         let Ok(now) = Instant::now(self.rt) else {
@@ -365,7 +366,7 @@ impl<'a, R: Clock> Sockets<'a, R> {
         if now.duration_since(self.ticked) >= self.period {
             return self.tick(now);
         }
-        if let Some(step) = self.take_silent(now, buf) {
+        if let Some(step) = self.take_silent(now) {
             return Some(step);
         }
         self.take_ready(now, buf)
@@ -375,7 +376,7 @@ impl<'a, R: Clock> Sockets<'a, R> {
     fn take_ready(&mut self, now: Instant, buf: &mut [u8]) -> Option<ServerStep>
         ensures lawful { IfLawful (standing self.old) (standing self.new) (length buf.new) result }
         ensures bounded { IfSome result (IsBounded (ready_in (line self.new)) (framings self.new) buf.new) }
-        ensures turns { HasTurns result (line self.old) (line self.new) }
+        ensures turns { HasTurns (standing self.old).listeners result (line self.old) (line self.new) }
         ensures serves { 0 < self.old.round → ServesAny (line self.old) (line self.new) }
         ensures asks { self.old.round ≡ 0 → IfNone result (Asks self.old self.new) }
     {
@@ -393,7 +394,7 @@ impl<'a, R: Clock> Sockets<'a, R> {
     pub(crate) fn next_step(&mut self, buf: &mut [u8]) -> ServerStep
         ensures lawful { IsLawful (standing self.old) (standing self.new) (length buf.new) result }
         ensures bounded { IsBounded (ready_in (line self.new)) (framings self.new) buf.new result }
-        ensures turns { HasTurns (Some result) (line self.old) (line self.new) }
+        ensures turns { HasTurns (standing self.old).listeners (Some result) (line self.old) (line self.new) }
     {
         if buf.is_empty() {
             return ServerStep::Failed(SourceFault::NoRoom);

@@ -1,6 +1,7 @@
 //! An addition under way.
 ghost use Rattle.std.specs.Prelude.{◌≡◌, ◌<◌, ◌≤◌, ◌∷◌, ◌++◌, [], ℕ, List, false, length, IfErr, IfOk, IsTrue};
 ghost use Rattle.std.specs.Prelude.{MatchResult, OnErr, OnOk};
+ghost use Rattle.disk.specs.Calls.{AtMostSyncs};
 ghost use Rattle.disk.specs.States.{State};
 ghost use Rattle.octet_devices.specs.Device.{InputState};
 ghost use Rattle.archive_pages.specs.Paged.{entries_in};
@@ -11,6 +12,7 @@ ghost use Rattle.archive_text.specs.declared.limits.TheConstants.{ENTRY_MAX};
 ghost use Rattle.durable_store.specs.Causes.{IsKeepingCause};
 ghost use Rattle.durable_store.specs.Recovery.{Adds};
 ghost use Rattle.durable_store.specs.Segments.{GainsOnly, octets_of};
+ghost use Rattle.durable_store.specs.declared.mixed.TheConstants.{SET_SYNCS};
 ghost use Rattle.journal.specs.Journals.{IsSound};
 ghost use Rattle.record_store.specs.Crashes.{HeldApart};
 ghost use Rattle.record_store.specs.Segments.{GrowsBeside};
@@ -169,6 +171,7 @@ impl Adding {
         ensures segments { D.tells disk.new → IsSound (D.state disk.old)
             → GrowsBeside 65 (D.state disk.old) (D.state disk.new) }
 
+        ensures syncs { AtMostSyncs SET_SYNCS (D.syncs disk.old) (D.syncs disk.new) }
         ensures told { D.tells disk.new → D.tells disk.old }
         ensures cause { IfErr result (IsKeepingCause (D.tells disk.new) (D.has_failed disk.new)
             (IsSound (D.state disk.old)) (D.state disk.new)) }
@@ -201,6 +204,7 @@ impl Adding {
             (D.state disk.new) self.new.added fault) }
         ensures read { IfOk result (λ more. IsTrue more → IsRead self.old self.new) }
         ensures empty { OnOk result (self.new.octets ≡ 0) }
+        ensures syncs { AtMostSyncs SET_SYNCS (D.syncs disk.old) (D.syncs disk.new) }
         ensures told { D.tells disk.new → D.tells disk.old }
         ensures failures { MatchResult result
             (λ _. (R.state input.new).failures ≡ (R.state input.old).failures)

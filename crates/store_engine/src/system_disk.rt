@@ -146,6 +146,8 @@ impl<R: Files + AllocGlobal + Clone + Drop> Disk for SystemDisk<R> {
 
     ghost has_failed = { λ d. IsSome (last_error_of d.disk) };
 
+    ghost syncs = { λ _. 0 };
+
     fn names(&mut self, alloc: Global) -> Result<Vec<FileName>, DiskFault> {
         self.disk.names(alloc)
     }

@@ -75,10 +75,12 @@ fn fault_of_checkpoint(fault: CheckpointFault) -> KeepFault {
 impl<D: Disk + Drop> DiskKeeper<D> {
     ghost use Rattle.std.specs.Prelude.{◌≡◌, List, IfErr, IfOk, OnOk};
     ghost use Rattle.archive_text.specs.Entries.{Entry};
+    ghost use Rattle.disk.specs.Calls.{AtMostSyncs};
     ghost use Rattle.record_store.specs.Crashes.{Keeps};
     ghost use Rattle.record_store.specs.Stores.{AreAmong, begun};
     ghost use Rattle.durable_store.specs.Asides.{SetsTailsAside, asides_of};
     ghost use Rattle.durable_store.specs.Durables.{IsBroken, Stands, entries_of};
+    ghost use Rattle.durable_store.specs.declared.checkpoint.TheConstants.{CHECKPOINT_SYNCS};
     ghost use Rattle.serve_engine.specs.Keepings.{Kept, all_committed};
     ghost use Rattle.store_keeper.specs.Keepers.{KeepsOn, disk_of, store_of};
     ghost use Rattle.store_keeper.specs.Keeping.{kept_whole, with_held};
@@ -132,6 +134,8 @@ impl<D: Disk + Drop> DiskKeeper<D> {
     fn write_out(&mut self, alloc: Global) -> Result<(), KeepFault>
         ensures kept { (k : Kept) → KeepsOn self.old k → KeepsOn self.new k }
         ensures done { OnOk result ((k : Kept) → KeepsOn self.old k → KeepsOn self.new (all_committed k)) }
+        ensures syncs { AtMostSyncs CHECKPOINT_SYNCS (D.syncs (disk_of self.old))
+            (D.syncs (disk_of self.new)) }
     {
         self.reserve = Vec::new(alloc);
         let done = self.store.checkpoint(alloc, &mut self.disk);
@@ -194,7 +198,11 @@ impl<D: Disk + Drop> DiskKeeper<D> {
 }
 
 impl<D: Disk + Drop> Keeping<SparedSet> for DiskKeeper<D> {
-    ghost use Rattle.store_keeper.specs.Keepers.{KeepsOn};
+    ghost use Rattle.std.specs.Prelude.{OnErr, OnOk};
+    ghost use Rattle.disk.specs.Calls.{AtMostSyncs};
+    ghost use Rattle.durable_store.specs.declared.checkpoint.TheConstants.{CHECKPOINT_SYNCS};
+    ghost use Rattle.serve_engine.specs.Keepings.{Kept, all_committed};
+    ghost use Rattle.store_keeper.specs.Keepers.{KeepsOn, disk_of};
     ghost use Rattle.store_keeper.specs.Spares.{is_short};
 
     ghost stands = { λ keeper k. KeepsOn keeper k };
@@ -213,7 +221,12 @@ impl<D: Disk + Drop> Keeping<SparedSet> for DiskKeeper<D> {
     }
 
     // Where there is no memory for a batch, a checkpoint commits what it would have had.
-    fn commit(&mut self, alloc: Global) -> Result<(), KeepFault> {
+    fn commit(&mut self, alloc: Global) -> Result<(), KeepFault>
+        ensures ok { OnOk result ((k : Kept) → KeepsOn self.old k → KeepsOn self.new (all_committed k)) }
+        ensures err { OnErr result ((k : Kept) → KeepsOn self.old k → KeepsOn self.new k) }
+        ensures syncs { AtMostSyncs CHECKPOINT_SYNCS (D.syncs (disk_of self.old))
+            (D.syncs (disk_of self.new)) }
+    {
         if !has_room(alloc, self.store.waiting()) {
             return self.write_out(alloc);
         }
@@ -235,7 +248,11 @@ impl<D: Disk + Drop> Keeping<SparedSet> for DiskKeeper<D> {
         }
     }
 
-    fn checkpoint(&mut self, alloc: Global) -> Result<(), KeepFault> {
+    fn checkpoint(&mut self, alloc: Global) -> Result<(), KeepFault>
+        ensures kept { (k : Kept) → KeepsOn self.old k → KeepsOn self.new k }
+        ensures syncs { AtMostSyncs CHECKPOINT_SYNCS (D.syncs (disk_of self.old))
+            (D.syncs (disk_of self.new)) }
+    {
         self.write_out(alloc)
     }
 

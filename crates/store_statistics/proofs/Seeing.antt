@@ -1,6 +1,6 @@
 -- What a file was found to be.
 use Rattle.std.proofs.Common.{◌≡◌, ℕ, List, Option, None, Some, inl, inr, refl, sym, subst}
-use Rattle.std.specs.Prelude.{Err, IfErr, IfOk, IsNone, IsSome, IsSomeAnd, Ok, Result}
+use Rattle.std.specs.Prelude.{Err, IfErr, IfOk, IsSomeAnd, Ok, Result}
 use Rattle.disk.specs.States.{Files}
 use Rattle.octet_devices.specs.Device.{InputState}
 use Rattle.record_store.specs.Names.{IsJournal, IsSegment}
@@ -21,15 +21,6 @@ use Rattle.store_statistics.specs.Looks.{IsSeenAt, IsSeenBy}
 use Rattle.store_statistics.specs.declared.figures.Figures.{Figures}
 use Rattle.store_statistics.specs.declared.look.Look.{Look}
 use Rattle.store_statistics.specs.declared.look.Look.TheVariants.{Nothing}
-
--- ---- a file that is gone
-
-some_none : (o : Option (List ℕ)) → IsNone o → IsSome o → ⊥
-some_none None none some = absurd (cc some)
-some_none (Some file) none some = absurd (cc none)
-
-pub seen_none : (files : Files) (name : List ℕ) → IsNone (files name) → IsSeenAt Nothing files name
-seen_none files name none counts some = some_none (files name) none some
 
 -- ---- a file that was counted
 

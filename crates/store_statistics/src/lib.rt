@@ -9,7 +9,6 @@ mod figures;
 mod lines;
 mod look;
 mod names;
-mod opening;
 mod segment;
 mod stat;
 mod sums;

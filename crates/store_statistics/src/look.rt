@@ -8,16 +8,18 @@ ghost use Rattle.store_statistics.specs.Looks.{IsSeenAt, IsSeenBy};
 
 use crate::batches::count_journal;
 use crate::figures::Figures;
-use crate::opening::{open_listed, read_listed};
 use crate::segment::count_segment;
 use disk::FileName;
 use std::alloc::Global;
-use store_reading::{CheckFault, FileFault, Folder, Period, ReadFault, is_journal, segment_period};
+use store_reading::{
+    CheckFault, FileFault, Folder, Period, ReadFault, is_journal, open_file, read_journal,
+    segment_period,
+};
 
 /// What a file is found to be.
 #[derive(Clone, Copy, Debug)]
 pub enum Look {
-    /// It does not count, or is gone.
+    /// It does not count.
     Nothing,
     /// It has these figures.
     Figures(Figures),
@@ -58,9 +60,7 @@ fn look_at_segment<F: Folder>(
     ensures told { F.tells folder.new → F.tells folder.old }
     ensures cause { IfErr result (IsCause (open_causes (F.has_failed folder.new) name.now)) }
 {
-    let Some(mut file) = open_listed(alloc, folder, name)? else {
-        return Ok(Look::Nothing);
-    };
+    let mut file = open_file(alloc, folder, name)?;
     seen_by(alloc, name, count_segment(alloc, period, &mut file))
 }
 
@@ -76,9 +76,7 @@ fn look_at_journal<F: Folder>(
     ensures told { F.tells folder.new → F.tells folder.old }
     ensures cause { IfErr result (IsCause (open_causes (F.has_failed folder.new) name.now)) }
 {
-    let Some(journal) = read_listed(alloc, folder, name)? else {
-        return Ok(Look::Nothing);
-    };
+    let journal = read_journal(alloc, folder, name)?;
     seen_by(alloc, name, count_journal(alloc, &journal))
 }
 

@@ -16,6 +16,9 @@ use std::alloc::Global;
 use store_reading::{Folder, ReadFault, list};
 use store_upkeep::DamagedFile;
 
+// How often the files are looked at, where one of them is gone meanwhile.
+const SURVEYS: usize = 4;
+
 /// What was found of a folder's files.
 #[derive(Drop)]
 pub struct Survey {
@@ -93,13 +96,10 @@ fn add_files<F: Folder>(
     Ok(())
 }
 
-/// Looks at the journals and the segments of a folder, in the order of their names, and adds what they
-/// have, or that they are damaged. A file that is gone when it is to be opened is left out.
-///
-/// # Errors
-/// The first fault for which a file or the names could not be read, or lack of memory. The files before
-/// it were added.
-pub fn survey_files<F: Folder>(
+// Looks at the journals and the segments of a folder, in the order of their names, and adds what they
+// have, or that they are damaged. It fails as the next call does, and at the first file that is gone when
+// it is to be opened.
+fn survey_once<F: Folder>(
     alloc: Global,
     folder: &mut F,
     survey: &mut Survey,
@@ -117,4 +117,36 @@ pub fn survey_files<F: Folder>(
     let mut names = list(alloc, folder)?;
     settle(&mut names);
     add_files(alloc, folder, &names, survey)
+}
+
+/// Looks at the journals and the segments of a folder, in the order of their names, and adds what they
+/// have, or that they are damaged. Where one is gone when it is to be opened, a checkpoint or a compaction
+/// has put its records elsewhere: then it begins anew.
+///
+/// # Errors
+/// The first fault for which a file or the names could not be read, or lack of memory. The files before
+/// it were added. `Gone` if a file went each time.
+pub fn survey_files<F: Folder>(
+    alloc: Global,
+    folder: &mut F,
+    survey: &mut Survey,
+) -> Result<(), ReadFault>
+    ensures order { IsEmpty survey.old → AreInOrder survey.new.files.items }
+    ensures right { IsEmpty survey.old → F.tells folder.new
+        → IsRight (F.files folder.old) survey.new }
+    ensures listed { OnOk result (F.tells folder.new → AreAllTold (F.files folder.old)
+        survey.new.files.items survey.new.damaged.items) }
+    ensures cause { IfErr result (IsCause (check_causes (F.has_failed folder.new)
+        (IsCountedFile (F.tells folder.new) (F.files folder.old)))) }
+    ensures same { F.tells folder.new → F.files folder.new ≡ F.files folder.old }
+    ensures told { F.tells folder.new → F.tells folder.old }
+{
+    'surveys: for _ in 0..SURVEYS {
+        match survey_once(alloc, folder, survey) {
+            Err(ReadFault::Gone) => {}
+            surveyed => return surveyed,
+        }
+        *survey = Survey::new(alloc);
+    }
+    Err(ReadFault::Gone)
 }

@@ -54,6 +54,8 @@ impl<D: Disk> Disk for CrampedDisk<D> {
 
     ghost has_failed = { λ c. (c.before ≡ 0) ⊎ D.has_failed c.disk };
 
+    ghost syncs = { λ c. D.syncs c.disk };
+
     fn names(&mut self, alloc: Global) -> Result<Vec<FileName>, DiskFault> {
         self.disk.names(alloc)
     }

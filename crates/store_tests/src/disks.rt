@@ -39,6 +39,7 @@ fn a_file_is_written_cut_and_renamed(rt: HostRuntime) -> Result<(), Fail> {
         (Change::SyncNames, Ok(())),
     ];
     change_all(alloc, &mut disk, &rows)?;
+    assert_eq!(rt; disk.sync_count(), 2);
     assert!(rt; octets_of(alloc, &mut disk, b"two")?.as_slice() == b"axc".as_slice());
     assert_eq!(rt; names_in(alloc, &mut disk)?.len(), 1);
     change_all(alloc, &mut disk, &[(Change::Remove("two"), Ok(()))])?;

@@ -62,6 +62,7 @@ fn a_batch_is_added_behind_the_first(rt: HostRuntime) -> Result<(), Fail> {
     let (mut disk, mut journal) = created(alloc)?;
     commit(alloc, &mut journal, &mut disk, b"ab")?;
     commit(alloc, &mut journal, &mut disk, b"")?;
+    assert_eq!(rt; disk.sync_count(), 6);
     let want = [1, 2, 0, 0, 0, b'a', b'b', 1, 0, 0, 0, 0];
     assert!(rt; batches_of(alloc, &mut disk)?.as_slice() == want.as_slice());
     Ok(())

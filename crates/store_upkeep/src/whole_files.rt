@@ -97,6 +97,8 @@ impl<D: Disk> Disk for WholeFiles<D> {
 
     ghost has_failed = { λ w. D.has_failed w.disk };
 
+    ghost syncs = { λ w. D.syncs w.disk };
+
     fn names(&mut self, alloc: Global) -> Result<Vec<FileName>, DiskFault> {
         self.disk.names(alloc)
     }

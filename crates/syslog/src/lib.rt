@@ -1,10 +1,12 @@
 //! Syslog: records, frames, archives, collectors and senders, behind one door.
 //!
 //! - Octets as a record: [`view`] lends its parts, [`decode`] owns them, and a refusal tells the
-//!   field and the octet ([`Fault`]). [`canon`] is the one canonical form of a record.
+//!   field and the octet ([`Fault`]). [`canon`] is the one canonical form of a record, and
+//!   [`write_canonical_octets`] that of octets.
 //! - Octets of a stream as frames, in whatever pieces they come: [`Scanner`].
 //! - Records as a set with one text: [`VecArchive`], [`PagedArchive`], [`merge`],
-//!   [`merge_streams`]; algebra of sets: [`join_streams`], [`select_stream`], [`digest_stream`].
+//!   [`merge_streams`]; algebra of sets: [`join_streams`], [`select_stream`], [`digest_stream`];
+//!   larger than memory: [`SpilledArchive`]; proofs of what is in one: [`Prover`], [`confirm`].
 //! - Many connections and datagrams into one set: [`Collector`].
 //! - Records of one origin: [`Sender`].
 //! - Legacy packets (RFC 3164): [`LegacyClock`], [`read_legacy`].
@@ -35,10 +37,23 @@ pub use syslog_archive::{
 pub use syslog_archive::{
     Common, Diff, DigestFault, JoinFault, Kept, Minus, Period, Union,
     archives_of_ranges_are_concatenated, common_and_minus_part_an_archive, digest_stream,
-    digests_are_one, equal_archives_do_not_differ, join_streams,
-    selecting_distributes_over_common_and_minus, union_is_that_of_all_sets,
-    union_of_two_is_what_merging_gives,
+    digests_are_one, equal_archives_do_not_differ, join_streams, kept_entries_are_archives,
+    selecting_by_both_is_selecting_by_each, selecting_distributes_over_common_and_minus,
+    selecting_distributes_over_union, selecting_is_idempotent, selections_are_archives,
+    union_is_that_of_all_sets, union_of_two_is_what_merging_gives,
 };
+
+// archives that are larger than memory
+pub use archive_spill::{
+    FolderSpill, MemorySpill, Spill, SpillCall, SpillFault, SpilledArchive, Uninterrupted,
+};
+
+// the Merkle tree of an archive, and proofs of what is in it
+pub use archive_proof::{
+    AskFault, AskedRecord, Proof, Prover, ProverFault, RecordsFault, confirm, confirm_all,
+    proofs_that_are_made_are_confirmed, put_proof, read_proof, read_records,
+};
+pub use archive_tree::{TreeHead, TreeStream};
 
 // collectors and senders
 pub use syslog_collect::{
@@ -48,15 +63,17 @@ pub use syslog_collect::{
 
 // frames
 pub use syslog_frame::{
-    COUNT_MAX, EndFault, FRAME_MAX, Framing, MsgLen, POSITION_MAX, PiecesFault, PutFault, Ready,
-    ScanFault, Scanner, StartFault, frames_of_pieces, msg_len, put_frame, trimmed,
+    COUNT_MAX, EndFault, FRAME_MAX, Framing, GrowFault, GrowingScanner, MsgLen, POSITION_MAX,
+    PiecesFault, PutFault, Ready, ScanFault, Scanner, StartFault, frames_of_pieces, msg_len,
+    put_frame, trimmed,
 };
 
 // records, and legacy packets
 pub use syslog_grammar::{
     DecodeFault, ElementView, Fault, Field, ParamView, RecordView, canon, canonical_is_injective,
     canonical_timestamp, decode, fault_of, is_canon, is_canon_unsorted, octets_are_one_record,
-    octets_have_one_fault, same_value, utf8, view, view_and_form, write_canonical_view,
+    octets_have_one_fault, same_value, utf8, view, view_and_form, write_canonical_octets,
+    write_canonical_view,
 };
 pub use syslog_legacy::{
     Dialect, FrameReading, LegacyClock, LegacyFault, LegacyView, has_new_form, legacy_view,

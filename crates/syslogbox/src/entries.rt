@@ -1,7 +1,7 @@
 //! Counted frames, by pieces: where the last whole one ends.
 
-// The most octets of a frame that is counted on.
-const LEN_MAX: u64 = 1 << 32;
+/// The most octets of a frame: one of 262,144 octets with its line is shorter.
+pub const LEN_MAX: u64 = 300_000;
 
 // What the next octet belongs to.
 #[derive(Clone, Copy, Debug, PartialEq, Eq)]
@@ -10,6 +10,8 @@ enum Part {
     Count(u64),
     // so many octets that are left of a frame
     Frame(u64),
+    // zeros, which a power cut leaves in place of what was written
+    Blank,
     // no counted frame any more
     Other,
 }
@@ -25,12 +27,13 @@ pub struct Entries {
 // What follows a count before this octet.
 fn after_count(count: u64, octet: u8) -> Part {
     match octet {
+        0 if count == 0 => Part::Blank,
         b'0' if count == 0 => Part::Other,
-        b'0'..=b'9' if count < LEN_MAX => {
+        b'0'..=b'9' if count <= LEN_MAX => {
             let digit = u64::from(octet.wrapping_sub(b'0'));
             Part::Count(count.saturating_mul(10).saturating_add(digit))
         }
-        b' ' if count > 0 => Part::Frame(count),
+        b' ' if count > 0 && count <= LEN_MAX => Part::Frame(count),
         _ => Part::Other,
     }
 }
@@ -48,6 +51,11 @@ impl Entries {
     /// Where the last whole frame ends.
     pub fn whole_len(&self) -> u64 {
         self.whole
+    }
+
+    /// Whether what stands behind the last whole frame may be the front of one, or was not written.
+    pub fn may_be_cut_short(&self) -> bool {
+        self.part != Part::Other
     }
 
     // Takes octets of a frame of which so many are left. Returns how many these are.
@@ -69,6 +77,12 @@ impl Entries {
             (Part::Count(count), Some(octet)) => {
                 self.at = self.at.saturating_add(1);
                 self.part = after_count(count, *octet);
+                1
+            }
+            (Part::Blank, Some(octet)) => {
+                if *octet != 0 {
+                    self.part = Part::Other;
+                }
                 1
             }
             (Part::Other, _) | (_, None) => piece.len(),

@@ -1,6 +1,6 @@
 //! The file of the frames that were refused.
 
-use crate::entries::Entries;
+use crate::entries::{Entries, LEN_MAX};
 use folder_disk::{Access, open_or_create};
 use std::alloc::AllocError;
 use std::fs::{self, File};
@@ -13,9 +13,6 @@ const REFUSED_MAX: u64 = 64 << 20;
 
 // The most octets of it where it cannot get another name.
 const UNTURNED_MAX: u64 = 128 << 20;
-
-// The most octets that a write leaves which ends halfway: those of a frame of 262,144 octets with its line.
-const TORN_MAX: u64 = 300_000;
 
 // How many octets of entries are written together at most, and read at once.
 const HELD_MAX: usize = 65_536;
@@ -62,8 +59,8 @@ fn open(rt: &HostRuntime, path: &str) -> io::Result<File> {
     Ok(open_or_create(rt, path, Access::Append)?.file)
 }
 
-// Where the last whole entry of a file ends.
-fn whole_len(file: &mut File, buf: &mut [u8]) -> io::Result<u64> {
+// The entries of a file, as far as they can be read.
+fn read_entries(file: &mut File, buf: &mut [u8]) -> io::Result<Entries> {
     let mut entries = Entries::new();
     file.seek(SeekFrom::Start(0))?;
     for _piece in 0..u64::MAX {
@@ -73,7 +70,7 @@ fn whole_len(file: &mut File, buf: &mut [u8]) -> io::Result<u64> {
             break;
         }
     }
-    Ok(entries.whole_len())
+    Ok(entries)
 }
 
 /// What was found behind the last whole entry of the file when it was opened.
@@ -81,18 +78,19 @@ fn whole_len(file: &mut File, buf: &mut [u8]) -> io::Result<u64> {
 pub enum Behind {
     /// Nothing.
     Nothing,
-    /// So many octets, which were cut off: the front of an entry.
+    /// So many octets, which were cut off: the front of an entry, or zeros.
     Torn(u64),
-    /// More than the front of an entry, from this octet on. The file was given its other name.
+    /// Something else, from this octet on. The file was given its other name.
     Damage(u64),
 }
 
 fn find_behind(file: &mut File, buf: &mut [u8]) -> io::Result<Behind> {
     let len = file.metadata()?.len();
-    let whole = whole_len(file, buf)?;
+    let entries = read_entries(file, buf)?;
+    let whole = entries.whole_len();
     Ok(match len.saturating_sub(whole) {
         0 => Behind::Nothing,
-        torn if torn <= TORN_MAX => Behind::Torn(torn),
+        torn if torn <= LEN_MAX && entries.may_be_cut_short() => Behind::Torn(torn),
         _ => Behind::Damage(whole),
     })
 }

@@ -2,7 +2,7 @@
 
 use archive_engine::archive_spilled_input;
 use archive_spill::{FolderSpill, SpilledArchive};
-use driver::{NO_MEMORY, report};
+use driver::{FAULT, NO_MEMORY, report};
 use frame_engine::InputFraming;
 use octet_devices::{FromRead, ToWrite};
 use std::alloc::Global;
@@ -26,6 +26,10 @@ pub fn archive(
     room: &Room<'_>,
 ) -> u8 {
     let mut diagnostics = ToWrite::new(rt.stderr());
+    if room.dir.is_empty() {
+        // no folder: files below it would be those of the root
+        return report(&mut diagnostics, b"spill fault\n", FAULT);
+    }
     let Ok(spill) = FolderSpill::new(rt, room.dir) else {
         return report(&mut diagnostics, b"want of memory\n", NO_MEMORY);
     };

@@ -2,6 +2,7 @@
 
 use crate::words::{asked, refuses_all};
 use command_line::{FrameCommand, Request};
+use driver::ReadLimit;
 use std::test::Fail;
 use syslog_legacy::{Dialect, FrameReading, LegacyClock};
 
@@ -140,6 +141,38 @@ fn check_has_a_summary_and_show_writes_json(rt: HostRuntime) -> Result<(), Fail>
             &["check", "--summary", "--summary"],
             &["show", "--summary"],
             &["show", "--json=true"],
+        ],
+    )
+}
+
+// how much a command reads of its input
+fn limit(rt: &HostRuntime, words: &[&str]) -> Option<ReadLimit> {
+    match asked(rt, words) {
+        Ok(Request::Frames(found)) => Some(found.limit),
+        _ => None,
+    }
+}
+
+#[test]
+fn an_input_may_have_any_length(rt: HostRuntime) -> Result<(), Fail> {
+    let rows: [(&[&str], ReadLimit); 4] = [
+        (&["check"], ReadLimit::Standard),
+        (&["check", "--endless"], ReadLimit::Unlimited),
+        (&["show", "--endless", "--json"], ReadLimit::Unlimited),
+        (
+            &["convert", "--to", "lf", "--endless"],
+            ReadLimit::Unlimited,
+        ),
+    ];
+    for (words, expected) in rows {
+        assert_eq!(rt; limit(&rt, words), Some(expected), "{words:?}");
+    }
+    refuses_all(
+        &rt,
+        &[
+            &["archive", "--endless"],
+            &["check", "--endless=true"],
+            &["show", "--endless", "--endless"],
         ],
     )
 }

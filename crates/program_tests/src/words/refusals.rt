@@ -13,8 +13,8 @@ fn tells(rt: &HostRuntime, words: &[&str], text: &str) -> bool {
 
 #[test]
 fn the_version_is_a_text(rt: HostRuntime) {
-    assert!(rt; tells(&rt, &["--version"], "syslogbox 0.8.0\n"));
-    assert!(rt; tells(&rt, &["-V"], "syslogbox 0.8.0\n"));
+    assert!(rt; tells(&rt, &["--version"], "syslogbox 0.9.0\n"));
+    assert!(rt; tells(&rt, &["-V"], "syslogbox 0.9.0\n"));
 }
 
 const REFUSED_COUNTS: [(&[&str], &str); 5] = [

@@ -26,4 +26,4 @@ returns-in-None-clause-is c =
     let b = c.args.piece.now in
     let line : IsLine b = subst IsLine (take_all (length b) b (omega arith)) (nowhere b (length b) (omega arith)
     c.in-None.ensures) in
-    (none_in_line b line, (10 ∷ [], (b, (line, refl))), (refl, refl))
+    (none_in_line b line, (10 ∷ [], (b, (line, refl))), (line, refl, refl))

@@ -8,20 +8,21 @@ use Rattle.syslog_legacy.specs.Views.{legacy_view_parts}
 use Rattle.c_library.specs.Canonicals.{CanonicalOf, IsNoRecord}
 use Rattle.c_library.specs.Legacies.{IsClockOf, IsNoLegacy, LegacyOf}
 use Rattle.c_library.specs.declared.fault.SyslogboxFault.{SyslogboxFault}
+use Rattle.syslog_legacy.specs.declared.clock.Dialect.{Dialect}
 use Rattle.syslog_legacy.specs.declared.clock.LegacyClock.{LegacyClock}
 use Rattle.std.specs.Prelude.{ℤ}
 use Rattle.c_library.proofs.legacy.legacy_text.Goals as goal
 
 -- a packet with the front of RFC 5424 is read so under any clock
-new_refused : (year offset : ℤ) (b : List ℕ) (clock : LegacyClock) (told : SyslogboxFault) → IsClockOf year offset clock
-    → HasNewForm b → IsNoRecord b told → IsNoLegacy year offset b told
-new_refused year offset b clock told is new (inl (inl long)) = inr (inl (clock, is, inl long))
-new_refused year offset b clock told is new (inl (inr (within, h))) = inr (inl (clock, is, inr (within, inl (new, h))))
-new_refused year offset b clock told is new (inr h) = inr (inr h)
+new_refused : (dialect : Dialect) (year offset : ℤ) (b : List ℕ) (clock : LegacyClock) (told : SyslogboxFault) → IsClockOf dialect year offset clock
+    → HasNewForm b → IsNoRecord b told → IsNoLegacy dialect year offset b told
+new_refused dialect year offset b clock told is new (inl (inl long)) = inr (inl (clock, is, inl long))
+new_refused dialect year offset b clock told is new (inl (inr (within, h))) = inr (inl (clock, is, inr (within, inl (new, h))))
+new_refused dialect year offset b clock told is new (inr h) = inr (inr h)
 
-new_read : (year offset : ℤ) (b text : List ℕ) (clock : LegacyClock) → IsClockOf year offset clock → HasNewForm b
-    → CanonicalOf b text → LegacyOf year offset b text
-new_read year offset b text clock is new (within, r, h, k) = (within, clock, is, r, inl (new, h), k)
+new_read : (dialect : Dialect) (year offset : ℤ) (b text : List ℕ) (clock : LegacyClock) → IsClockOf dialect year offset clock → HasNewForm b
+    → CanonicalOf b text → LegacyOf dialect year offset b text
+new_read dialect year offset b text clock is new (within, r, h, k) = (within, clock, is, r, inl (new, h), k)
 
 pub returns-then-packet-gt-ENTRY_MAX : goal.returns-then-packet-gt-ENTRY_MAX
 returns-then-packet-gt-ENTRY_MAX c =
@@ -37,8 +38,8 @@ returns-then-has_new_form c =
     at c.in-Some.ensures in
     let new = c.has_new_form.ensures.0 c.if-has_new_form.true in
     MatchResult-weaker c.canonical_text.result c.canonical_text.ensures
-    (λ v. new_read c.args.year c.args.offset_minutes c.args.packet.now v.items c.in-Some.clock is new)
-    (λ told. new_refused c.args.year c.args.offset_minutes c.args.packet.now c.in-Some.clock told is new)
+    (λ v. new_read c.args.dialect c.args.year c.args.offset_minutes c.args.packet.now v.items c.in-Some.clock is new)
+    (λ told. new_refused c.args.dialect c.args.year c.args.offset_minutes c.args.packet.now c.in-Some.clock told is new)
 
 pub returns-in-Err : goal.returns-in-Err
 returns-in-Err c =

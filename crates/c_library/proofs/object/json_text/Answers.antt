@@ -1,5 +1,4 @@
-use Rattle.std.proofs.Common.{rules, ◌≡◌, ℕ, ◌-◌, ◌≤◌, List, [], arith, false, length, subst, sym, take, ◌∙◌}
-use Rattle.std.specs.Prelude.{OnOk}
+use Rattle.std.proofs.Common.{◌≡◌, ℕ, ◌-◌, List, arith, subst, sym, take, ◌∙◌}
 use Rattle.record_json.specs.Texts.{AddsLine}
 use Rattle.c_library.proofs.Objects.{cut_line, on_ok}
 use Rattle.c_library.proofs.object.json_text.Goals as goal

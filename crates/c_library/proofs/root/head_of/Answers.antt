@@ -1,4 +1,4 @@
-use Rattle.std.proofs.Common.{rules, ◌≡◌, ◌<◌, ◌^◌, List, arith, sym, subst, take, ℕ}
+use Rattle.std.proofs.Common.{rules, ◌<◌, ◌^◌, List, arith, sym, subst, take, ℕ}
 use Rattle.archive_tree.specs.Archives.{texts_of}
 use Rattle.archive_tree.specs.Trees.{HasTaken}
 use Rattle.c_library.proofs.Rooting.{leaf_more, leaves_few}

@@ -14,7 +14,7 @@ returns-in_err-flush-in-Ok g c = λ begun.
     let held = done_of c.read_through.new.effects in
     let total = with_rest (then_done (written h.output h.diagnostics) held) (g.S.Session.rest c.read_through.new.session) in
     let p = err_from_is_err_and c.from_residual.result c.from_residual.ensures.1 in
-    rw p.1 (pumped_fails M _ _ _ _ held total p.0 h.output h.diagnostics
+    rw p.1 (pumped_fails _ M _ _ _ _ held total p.0 h.output h.diagnostics
     (g.S.Session.rest c.read_through.new.session)
     (λ laws input x known whole.
     let begins = leads_answer M _ h.input total h.is_input h.means laws input x known whole in
@@ -25,7 +25,7 @@ returns-in_err-flush-in-Ok g c = λ begun.
 pub returns-in-Ok-write_rest : goal.returns-in-Ok-write_rest
 returns-in-Ok-write_rest g c = λ begun.
     let t = c.in-Ok.ensures.ran begun in
-    pumped_answer (g.S.Session.means c.args.session.now) _ _ _ _ _ (done_of c.read_through.new.effects)
+    pumped_answer _ (g.S.Session.means c.args.session.now) _ _ _ _ _ (done_of c.read_through.new.effects)
     (done_of c.flush.new.effects) _ _ t.outcome c.in_ok-flush-in-Ok.ensures.flushes c.in_ok-flush-in-Ok.ensures.clear
     c.in-Ok-write_rest.ensures c.status.ensures t.used
 
@@ -33,7 +33,7 @@ pub returns-in-Ok : goal.returns-in-Ok
 returns-in-Ok g c = λ begun.
     let t = c.in-Ok.ensures.ran begun in
     let part = unsent_part _ _ _ _ c.in-Err.ensures in
-    pumped_short (g.S.Session.means c.args.session.now) _ _ _ _ _ (done_of c.read_through.new.effects)
+    pumped_short _ (g.S.Session.means c.args.session.now) _ _ _ _ _ (done_of c.read_through.new.effects)
     (done_of c.flush.new.effects) _ part.0 part.1 t.outcome c.in_ok-flush-in-Ok.ensures.flushes
     c.in_ok-flush-in-Ok.ensures.clear part.2 part.4 part.3 c.in-Err.ensures.cause t.used
 
@@ -45,7 +45,7 @@ returns-in_err-flush-in-Err-Read g c = λ begun.
     let held = done_of c.read_through.new.effects in
     let p = err_from_is_err_and c.from_residual-in_err-flush-in-Err-Read.result
     c.from_residual-in_err-flush-in-Err-Read.ensures.1 in
-    rw p.1 (pumped_fails M _ _ _ _ held (then_done (written h.output h.diagnostics) held) p.0 h.output h.diagnostics []
+    rw p.1 (pumped_fails _ M _ _ _ _ held (then_done (written h.output h.diagnostics) held) p.0 h.output h.diagnostics []
     (leads_so_far M _ _ h.given (then_done (written h.output h.diagnostics) held) h.consumed h.means) h.wrote.to_output
     h.wrote.to_diagnostics (inr (h.given, h.consumed, inl h.means)) (sym (append-nil (h.output ++ held.output))) refl
     (rw p.2 c.in_err-flush-in-Err-Read.ensures.flushes) t.used)
@@ -74,7 +74,7 @@ returns-in_err-flush-in-Err-Endless g c = λ begun.
     let held = done_of c.read_through.new.effects in
     let p = err_from_is_err_and c.from_residual-in_err-flush-in-Err-Endless.result
     c.from_residual-in_err-flush-in-Err-Endless.ensures.1 in
-    rw p.1 (pumped_fails M _ _ _ _ held (then_done (written h.output h.diagnostics) held) p.0 h.output h.diagnostics []
+    rw p.1 (pumped_fails _ M _ _ _ _ held (then_done (written h.output h.diagnostics) held) p.0 h.output h.diagnostics []
     (leads_so_far M _ _ h.given (then_done (written h.output h.diagnostics) held) h.consumed h.means) h.wrote.to_output
     h.wrote.to_diagnostics (inr (h.given, h.consumed, inl h.means)) (sym (append-nil (h.output ++ held.output))) refl
     (rw p.2 c.in_err-flush-in-Err-Endless.ensures.flushes) t.used)
@@ -103,7 +103,7 @@ returns-in_err-flush-in-Err-Memory g c = λ begun.
     let held = done_of c.read_through.new.effects in
     let p = err_from_is_err_and c.from_residual-in_err-flush-in-Err-Memory.result
     c.from_residual-in_err-flush-in-Err-Memory.ensures.1 in
-    rw p.1 (pumped_fails M _ _ _ _ held (then_done (written h.output h.diagnostics) held) p.0 h.output h.diagnostics []
+    rw p.1 (pumped_fails _ M _ _ _ _ held (then_done (written h.output h.diagnostics) held) p.0 h.output h.diagnostics []
     (leads_part M _ _ h.given (then_done (written h.output h.diagnostics) held) h.consumed h.means) h.wrote.to_output
     h.wrote.to_diagnostics (inr (h.given, h.consumed, inr h.means)) (sym (append-nil (h.output ++ held.output))) refl
     (rw p.2 c.in_err-flush-in-Err-Memory.ensures.flushes) t.used)

@@ -1,4 +1,4 @@
-use Rattle.std.proofs.Common.{List, ℕ, [], ◌∷◌, refl, subst, ◌∙◌}
+use Rattle.std.proofs.Common.{List, ℕ, [], ◌∷◌, arith, refl, subst, ◌∙◌}
 use Rattle.archive_text.specs.EntryViews.{entry_of}
 use Rattle.archive_text.specs.Text.{text_of}
 use Rattle.archive_pages.specs.Paged.{entries_from, entries_in}
@@ -13,6 +13,7 @@ use Rattle.durable_store.proofs.mixed.put_mixed.Goals as goal
 
 pub days-init : goal.days-init
 days-init g c = record {
+  syncs = omega arith;
   told = λ tells. tells;
   name = refl;
   aside = λ tells. aside_none (g.D.Disk.state c.args.disk.now) (draft_of c.args.draft.now);
@@ -23,6 +24,7 @@ days-init g c = record {
 
 pub days-preserved : goal.days-preserved
 days-preserved g c = record {
+  syncs = omega (arith, c.days.invariant.syncs, c.mix_day.ensures.syncs);
   told = λ tells. c.days.invariant.told (c.mix_day.ensures.told tells);
   name = c.mix_day.ensures.name ∙ c.days.invariant.name;
   aside = λ tells. aside_then (g.D.Disk.state c.args.disk.now) (g.D.Disk.state c.days.disk)

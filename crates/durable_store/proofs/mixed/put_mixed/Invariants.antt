@@ -1,4 +1,5 @@
 use Rattle.std.proofs.Common.{◌≡◌, [], length}
+use Rattle.disk.specs.Calls.{AtMostSyncs}
 use Rattle.archive_pages.specs.Paged.{entries_from, entries_in}
 use Rattle.record_store.specs.Segments.{draft_of}
 use Rattle.durable_store.specs.Segments.{KeepsAside}
@@ -7,6 +8,7 @@ use Rattle.durable_store.proofs.mixed.put_mixed.Given as goal
 
 abbrev pub invariant-days : goal.invariant-days
 invariant-days g l = record {
+  syncs : AtMostSyncs 0 (g.D.Disk.syncs l.fn.disk) (g.D.Disk.syncs l.disk);
   told : g.D.Disk.tells l.disk → g.D.Disk.tells l.fn.disk;
   name : draft_of l.draft ≡ draft_of l.fn.draft;
   aside : g.D.Disk.tells l.disk → KeepsAside (g.D.Disk.state l.fn.disk) (g.D.Disk.state l.disk) (draft_of l.fn.draft);

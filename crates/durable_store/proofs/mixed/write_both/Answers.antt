@@ -6,6 +6,7 @@ use Rattle.durable_store.specs.Segments.{octets_of}
 use Rattle.durable_store.proofs.Daily.{all_held, both_held, err_weaker, gains_then, on_ok_weaker}
 use Rattle.durable_store.proofs.Failing.{keeping_less}
 use Rattle.durable_store.proofs.Growth.{grows_set}
+use Rattle.durable_store.proofs.Syncing.{syncs_few}
 use Rattle.durable_store.proofs.mixed.write_both.Goals as goal
 
 pub returns-in_err-write_days-clause-segments : goal.returns-in_err-write_days-clause-segments
@@ -72,3 +73,21 @@ returns-then-branch-clause-cause g c =
     (g.D.Disk.state c.write_mixed.new.disk) fault
     (λ tell. c.in_ok-write_days.ensures.wrote.sound (c.write_mixed.ensures.told tell)) cause)
     c.write_mixed.result c.write_mixed.ensures.cause
+
+pub returns-in_err-write_days-clause-syncs : goal.returns-in_err-write_days-clause-syncs
+returns-in_err-write_days-clause-syncs g c =
+    let few = syncs_few c.set_len-total.result (entries_in c.args.set.now) (g.D.Disk.syncs c.args.disk.now)
+    (g.D.Disk.syncs c.write_days.new.disk) c.set_len-total.ensures c.write_days.ensures.syncs in
+    omega (arith, few)
+
+pub returns-clause-syncs : goal.returns-clause-syncs
+returns-clause-syncs g c =
+    let few = syncs_few c.set_len-total.result (entries_in c.args.set.now) (g.D.Disk.syncs c.args.disk.now)
+    (g.D.Disk.syncs c.write_days.new.disk) c.set_len-total.ensures c.write_days.ensures.syncs in
+    omega (arith, few)
+
+pub returns-then-branch-clause-syncs : goal.returns-then-branch-clause-syncs
+returns-then-branch-clause-syncs g c =
+    let few = syncs_few c.set_len-total.result (entries_in c.args.set.now) (g.D.Disk.syncs c.args.disk.now)
+    (g.D.Disk.syncs c.write_days.new.disk) c.set_len-total.ensures c.write_days.ensures.syncs in
+    omega (arith, few, c.write_mixed.ensures.syncs)

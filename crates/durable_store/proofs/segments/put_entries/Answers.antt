@@ -1,4 +1,4 @@
-use Rattle.std.proofs.Common.{List, ℕ, ◌∷◌, subst, ◌∙◌}
+use Rattle.std.proofs.Common.{List, ℕ, ◌∷◌, arith, subst, ◌∙◌}
 use Rattle.archive_text.specs.EntryViews.{entry_of}
 use Rattle.archive_text.specs.Text.{text_of}
 use Rattle.archive_pages.specs.Paged.{entries_from}
@@ -11,6 +11,7 @@ use Rattle.durable_store.proofs.segments.put_entries.Goals as goal
 
 pub entries-init : goal.entries-init
 entries-init g c = record {
+  syncs = c.put_entry.ensures.syncs;
   told = c.put_entry.ensures.told;
   name = c.put_entry.ensures.name;
   aside = c.put_entry.ensures.aside;
@@ -22,6 +23,7 @@ entries-init g c = record {
 
 pub entries-preserved : goal.entries-preserved
 entries-preserved g c = record {
+  syncs = omega (arith, c.entries.invariant.syncs, c.put_entry-in-Some.ensures.syncs);
   told = λ tells. c.entries.invariant.told (c.put_entry-in-Some.ensures.told tells);
   name = c.put_entry-in-Some.ensures.name ∙ c.entries.invariant.name;
   aside = λ tells. aside_then (g.D.Disk.state c.args.disk.now) (g.D.Disk.state c.entries.disk)

@@ -1,4 +1,5 @@
 use Rattle.std.proofs.Common.{◌≡◌, length}
+use Rattle.disk.specs.Calls.{AtMostSyncs}
 use Rattle.archive_text.specs.EntryViews.{entry_of}
 use Rattle.archive_pages.specs.Paged.{entries_from}
 use Rattle.record_store.specs.Segments.{draft_of}
@@ -8,6 +9,7 @@ use Rattle.durable_store.proofs.segments.put_entries.Given as goal
 
 abbrev pub invariant-entries : goal.invariant-entries
 invariant-entries g l = record {
+  syncs : AtMostSyncs 0 (g.D.Disk.syncs l.fn.disk) (g.D.Disk.syncs l.disk);
   told : g.D.Disk.tells l.disk → g.D.Disk.tells l.fn.disk;
   name : draft_of l.draft ≡ draft_of l.fn.draft;
   aside : g.D.Disk.tells l.disk → KeepsAside (g.D.Disk.state l.fn.disk) (g.D.Disk.state l.disk) (draft_of l.fn.draft);

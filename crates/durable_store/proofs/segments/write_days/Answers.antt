@@ -1,18 +1,22 @@
-use Rattle.std.proofs.Common.{List, inl, inr, subst, sym}
+use Rattle.std.proofs.Common.{List, [], ◌∷◌, inl, inr, subst, sym}
 use Rattle.std.specs.Prelude.{false}
 use Rattle.archive_text.specs.Entries.{Entry}
 use Rattle.archive_text.specs.EntryViews.{entry_of}
 use Rattle.archive_pages.specs.Paged.{entries_from, entries_in}
 use Rattle.journal.specs.Journals.{IsSound}
 use Rattle.durable_store.specs.Segments.{octets_of}
+use Rattle.durable_store.specs.Shares.{SyncsAlong}
 use Rattle.durable_store.proofs.Daily.{DaysWritten, days_gain, days_grow, days_grown, days_more, days_shorter, days_written}
 use Rattle.durable_store.proofs.Daily.{none_written}
 use Rattle.durable_store.proofs.Failing.{keeping_less}
 use Rattle.durable_store.proofs.Readable.{at_err}
+use Rattle.durable_store.proofs.Syncing.{syncs_then, syncs_none}
 use Rattle.durable_store.proofs.segments.write_days.Goals as goal
 
 pub days-init : goal.days-init
 days-init g c = record {
+  syncs = syncs_none c.args.total (entries_in c.args.set.now) [] (entries_from c.args.set.now c.first-place.result)
+      (g.D.Disk.syncs c.args.disk.now) (sym (c.first-place.ensures c.args.set.now));
   told = λ tells. tells;
   written = subst (λ (l : List Entry). DaysWritten (g.D.Disk.tells c.args.disk.now) c.args.total (octets_of c.args.name)
       (g.D.Disk.state c.args.disk.now) (g.D.Disk.state c.args.disk.now) false (entries_in c.args.set.now) l)
@@ -23,6 +27,10 @@ days-init g c = record {
 
 pub days-preserved : goal.days-preserved
 days-preserved g c = record {
+  syncs = syncs_then c.args.total (entries_in c.args.set.now) (entries_from c.args.set.now c.days.place)
+      (entry_of c.in-Some.entry ∷ entries_from c.args.set.now c.in-Some.behind)
+      (entries_from c.args.set.now c.in_ok-wrote.next) (g.D.Disk.syncs c.args.disk.now) (g.D.Disk.syncs c.days.disk)
+      (g.D.Disk.syncs c.write_share.new.disk) c.days.invariant.syncs c.in-Some.ensures.some c.in_ok-wrote.ensures.along;
   told = λ tells. c.days.invariant.told (c.write_share.ensures.told tells);
   written = days_more (g.D.Disk.tells c.write_share.new.disk) (g.D.Disk.tells c.days.disk) c.args.total
       (octets_of c.args.name) (g.D.Disk.state c.args.disk.now) (g.D.Disk.state c.days.disk) (g.D.Disk.state c.write_share.new.disk) c.days.skipped
@@ -84,3 +92,15 @@ returns-clause-grows g c =
     (g.D.Disk.state c.days.disk)
     c.days.skipped (entries_in c.args.set.now) (entries_from c.args.set.now c.days.place) c.days.invariant.written
     c.in_default.ensures.none
+
+pub returns-in_err-wrote-clause-syncs : goal.returns-in_err-wrote-clause-syncs
+returns-in_err-wrote-clause-syncs g c =
+    syncs_then c.args.total (entries_in c.args.set.now) (entries_from c.args.set.now c.days.place)
+    (entry_of c.in-Some.entry ∷ entries_from c.args.set.now c.in-Some.behind) [] (g.D.Disk.syncs c.args.disk.now)
+    (g.D.Disk.syncs c.days.disk) (g.D.Disk.syncs c.write_share.new.disk) c.days.invariant.syncs c.in-Some.ensures.some
+    c.write_share.ensures.syncs
+
+pub returns-clause-syncs : goal.returns-clause-syncs
+returns-clause-syncs g c =
+    subst (λ (l : List Entry). SyncsAlong c.args.total (entries_in c.args.set.now) l (g.D.Disk.syncs c.args.disk.now)
+    (g.D.Disk.syncs c.days.disk)) c.in_default.ensures.none c.days.invariant.syncs

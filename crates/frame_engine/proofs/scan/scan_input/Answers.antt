@@ -9,5 +9,5 @@ returns-in_default g c =
     let D = g.D.FrameHandler.handles c.args.handler in
     let T = g.D.FrameHandler.reports c.args.handler in
     let E = g.D.FrameHandler.ends c.args.handler in
-    rw c.in-Stream.is (unstarted (handler_meaning D T E (Stream c.in-Stream.framing)) _ _ _
+    rw c.in-Stream.is (unstarted _ (handler_meaning D T E (Stream c.in-Stream.framing)) _ _ _
     (nothing_goes_on D c.in-Stream.framing) (nothing_part D c.in-Stream.framing) c.report.ensures.reports)

@@ -17,6 +17,7 @@ pieces-preserved g c =
     let then = g.D.Disk.state c.pieces.disk in
     let new = g.D.Disk.state c.compare_at.new.disk in
     record {
+      syncs = omega (arith, c.pieces.invariant.syncs, c.compare_at.ensures.syncs);
       told = λ tells. c.pieces.invariant.told (c.compare_at.ensures.told tells);
       same = λ tells. same_then zero then new (c.pieces.invariant.same (c.compare_at.ensures.told tells))
           (c.compare_at.ensures.same tells);

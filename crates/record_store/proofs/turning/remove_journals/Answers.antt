@@ -16,6 +16,7 @@ use Rattle.record_store.proofs.turning.remove_journals.Goals as goal
 
 pub loop-number-init : goal.loop-number-init
 loop-number-init g c = record {
+  syncs = omega arith;
   told = λ tells. tells;
   shed = λ tells. shed_none (g.D.Disk.state c.args.disk.now);
   gone = λ tells n has. absurd (omega (arith, has.1));
@@ -33,6 +34,7 @@ loop-number-preserved g c =
     let small : number < 2 ^ 64 = first_of (omega arith, search rules, grind (arith, common_steps)) in
     let more = take_more numbers index 0 c.loop-number-test.true in
     record {
+      syncs = omega (arith, c.loop-number.invariant.syncs, c.remove_journal.ensures.syncs);
       told = λ tells. c.loop-number.invariant.told (c.remove_journal.ensures.told tells);
       shed = λ tells.
           let told = c.remove_journal.ensures.told tells in

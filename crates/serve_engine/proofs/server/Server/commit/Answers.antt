@@ -2,6 +2,7 @@ use Rattle.std.proofs.Common.{arith, inl, inr, subst, sym, ap}
 use Rattle.serve_engine.specs.Intakes.{StandsBy}
 use Rattle.serve_engine.proofs.Turns.{fault_turn, stopped_fault}
 use Rattle.serve_engine.proofs.Counted.{dropped_none}
+use Rattle.serve_engine.proofs.Told.{lines_none}
 use Rattle.serve_engine.proofs.server.Server.commit.Goals as goal
 
 pub returns-in-Ok-clause-served : goal.returns-in-Ok-clause-served
@@ -31,3 +32,12 @@ returns-in-Ok-clause-kept g c = (
 
 pub returns-in-Err-clause-kept : goal.returns-in-Err-clause-kept
 returns-in-Err-clause-kept g c = (c.fault.ensures.kept.0, inl c.fault.ensures.kept.1)
+
+pub returns-in-Ok-clause-notes : goal.returns-in-Ok-clause-notes
+returns-in-Ok-clause-notes g c = lines_none 1 _ _ (ap (λ t. t.output) c.committed.ensures.told)
+
+pub returns-in-Ok-clause-pace : goal.returns-in-Ok-clause-pace
+returns-in-Ok-clause-pace g c = ap (λ t. t.pace) c.committed.ensures.told
+
+pub returns-in-Err-clause-notes : goal.returns-in-Err-clause-notes
+returns-in-Err-clause-notes g c = c.fault.ensures.notes

@@ -8,6 +8,7 @@ use Rattle.serve_engine.specs.Refusals.{KeepsEach, kept_in}
 use Rattle.serve_engine.specs.declared.counts.ServeCounts.{ServeCounts}
 use Rattle.serve_engine.proofs.Refused.{kept_at}
 use Rattle.serve_engine.proofs.Turns.{accepted_own, quiet_datagram}
+use Rattle.serve_engine.proofs.Told.{of_behind, of_then, turn_of}
 use Rattle.serve_engine.proofs.server.Server.datagram.Goals as goal
 
 pub returns-clause-served : goal.returns-clause-served
@@ -28,7 +29,13 @@ returns-clause-served g c k first before at none =
             (subst (λ (os : List Outcome). KeepsEach c.args.octets.now os
             (kept_in (g.R.Output.state) c.count_octets.new.self)
             (kept_in (g.R.Output.state) c.outcomes.new.self)) c.as_slice.ensures.value c.outcomes.ensures.kept),
-        c.datagram.ensures,
+        c.datagram.ensures.kept,
       ),
       quiet_datagram _ (history_of before) _ _ _ c.receive-received.result _ _ none quiet made.2,
     )
+
+pub returns-clause-notes : goal.returns-clause-notes
+returns-clause-notes g c =
+    turn_of _ _ _ _
+    (of_then _ _ 1 _ _ _ (of_behind _ _ _ _ _ c.count_octets.ensures.told c.outcomes.ensures.told)
+    c.datagram.ensures.told)

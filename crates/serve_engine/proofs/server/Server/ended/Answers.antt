@@ -3,6 +3,7 @@ use Rattle.syslog_collect.specs.History.{Ended}
 use Rattle.serve_engine.specs.Events.{manner_of}
 use Rattle.serve_engine.proofs.Ending.{end_goes_on, if_refused}
 use Rattle.serve_engine.proofs.Turns.{accepted_own, never_memory}
+use Rattle.serve_engine.proofs.Told.{turn_of}
 use Rattle.serve_engine.proofs.server.Server.ended.Goals as goal
 
 pub returns-clause-served : goal.returns-clause-served
@@ -17,3 +18,6 @@ returns-clause-served g c k first before at none =
       (c.ended.ensures.kept, c.ended.ensures.counts),
       quiet,
     )
+
+pub returns-clause-notes : goal.returns-clause-notes
+returns-clause-notes g c = turn_of _ 2 _ _ c.ended.ensures.told

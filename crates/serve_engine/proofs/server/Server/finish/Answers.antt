@@ -2,6 +2,7 @@ use Rattle.std.proofs.Common.{◌∙◌, arith, subst, sym}
 use Rattle.serve_engine.specs.Intakes.{IsCommitted, StandsBy}
 use Rattle.serve_engine.proofs.Turns.{ended_committed}
 use Rattle.serve_engine.proofs.Counted.{commit_behind}
+use Rattle.serve_engine.proofs.Told.{few_more, few_then}
 use Rattle.serve_engine.proofs.server.Server.finish.Goals as goal
 
 pub returns-in-On-clause-served : goal.returns-in-On-clause-served
@@ -30,3 +31,9 @@ returns-in-On-clause-kept g c = (
 
 pub returns-in_default-clause-kept : goal.returns-in_default-clause-kept
 returns-in_default-clause-kept g c = c.commit.ensures.kept
+
+pub returns-in-On-clause-notes : goal.returns-in-On-clause-notes
+returns-in-On-clause-notes g c = few_then 1 1 _ _ _ c.commit.ensures.notes c.end_with.ensures.notes
+
+pub returns-in_default-clause-notes : goal.returns-in_default-clause-notes
+returns-in_default-clause-notes g c = few_more 1 2 _ _ (omega arith) c.commit.ensures.notes

@@ -2,6 +2,7 @@ use Rattle.std.proofs.Common.{arith, ap, subst, sym, ◌∙◌}
 use Rattle.serve_engine.specs.Intakes.{StandsBy}
 use Rattle.serve_engine.proofs.Counted.{dropped_twice}
 use Rattle.serve_engine.proofs.Turns.{told_full}
+use Rattle.serve_engine.proofs.Told.{few_more, few_then}
 use Rattle.serve_engine.proofs.server.Server.finish_tick.Goals as goal
 
 pub returns-in-On-clause-stands : goal.returns-in-On-clause-stands
@@ -25,3 +26,9 @@ returns-in-On-clause-told g c was on =
     (λ full. (c.checkpoint.ensures.told was).1 c.in-On.is (sym c.tell_room.ensures.full ∙ full))
     (λ room. c.tell_room.ensures.told (sym c.tell_room.ensures.full ∙ room))
     (λ full. ap (λ s. s.told) (c.tell_room.ensures.waits (sym c.tell_room.ensures.full ∙ full)))
+
+pub returns-in-On-clause-notes : goal.returns-in-On-clause-notes
+returns-in-On-clause-notes g c = few_then 1 1 _ _ _ c.checkpoint.ensures.notes c.tell_room.ensures.notes
+
+pub returns-in_default-clause-notes : goal.returns-in_default-clause-notes
+returns-in_default-clause-notes g c = few_more 1 2 _ _ (omega arith) c.checkpoint.ensures.notes

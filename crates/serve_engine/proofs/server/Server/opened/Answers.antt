@@ -3,6 +3,7 @@ use Rattle.syslog_collect.specs.History.{Opened}
 use Rattle.serve_engine.specs.Events.{loses_opening, manner_of}
 use Rattle.serve_engine.proofs.Counted.{dropped_none, none_opened}
 use Rattle.serve_engine.proofs.Turns.{accepted_none, accepted_own, lost_opening, never_memory}
+use Rattle.serve_engine.proofs.Told.{turn_none, turn_of}
 use Rattle.serve_engine.proofs.server.Server.opened.Goals as goal
 
 pub returns-in-Accepted-clause-served : goal.returns-in-Accepted-clause-served
@@ -44,3 +45,9 @@ returns-in_default-clause-served g c = (
         quiet,
       ),
 )
+
+pub returns-in-Accepted-clause-notes : goal.returns-in-Accepted-clause-notes
+returns-in-Accepted-clause-notes g c = turn_none _ _ c.count_connection.ensures.told
+
+pub returns-in_default-clause-notes : goal.returns-in_default-clause-notes
+returns-in_default-clause-notes g c = turn_of _ 1 _ _ c.tell.ensures.told

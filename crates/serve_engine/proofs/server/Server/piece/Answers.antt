@@ -3,6 +3,9 @@ use Rattle.syslog_collect.specs.History.{AcceptedEvent, Ended, Piece, history_of
 use Rattle.serve_engine.specs.Events.{Manner, Receives, ends_in_bad_count, manner_of}
 use Rattle.serve_engine.specs.Intakes.{StandsBy}
 use Rattle.serve_engine.specs.Refusals.{kept_in}
+use Rattle.serve_engine.specs.Notes.{told_in}
+use Rattle.serve_engine.specs.Peers.{peer_of}
+use Rattle.serve_engine.proofs.Told.{piece_lost, piece_told, piece_turn}
 use Rattle.serve_engine.proofs.Refused.{ended_none_lost, hears_kept, kept_at, kept_frames, kept_starved, none_lost, one_lost}
 use Rattle.serve_engine.proofs.Refused.{refused_none_lost}
 use Rattle.serve_engine.proofs.Turns.{accepted_closing, accepted_own, ended_memory, kept_memory, lost_memory, lost_taken}
@@ -27,7 +30,7 @@ returns-then-frame_waits-clause-served g c = (
         made.1,
         taken,
         kept_frames taken _ _
-            (hears_kept (g.R.Output.state) _ c.args.octets.now _ _ _ c.begin_piece.new.self
+            (hears_kept (g.N.Output.state) (g.R.Output.state) _ c.args.octets.now _ _ _ c.begin_piece.new.self
             c.receive_piece-received.new.observer _ _ (kept_at (g.R.Output.state) c.begin_piece.new.self
             c.args.self.now.report c.args.octets.now c.begin_piece.ensures.refused c.begin_piece.ensures.counts) refl
             (c.receive_piece-received.ensures.hears k first before at))
@@ -59,7 +62,7 @@ returns-else-frame_waits-clause-served g c = (
             first es) (append_assoc before made.0 lost.0) lost.1,
         taken,
         kept_starved taken _ (kept_in (g.R.Output.state) c.receive_piece-received.new.observer) _ c.in-Memory.is
-            (hears_kept (g.R.Output.state) _ c.args.octets.now _ _ _ c.begin_piece.new.self
+            (hears_kept (g.N.Output.state) (g.R.Output.state) _ c.args.octets.now _ _ _ c.begin_piece.new.self
             c.receive_piece-received.new.observer _ _ (kept_at (g.R.Output.state) c.begin_piece.new.self
             c.args.self.now.report c.args.octets.now c.begin_piece.ensures.refused c.begin_piece.ensures.counts) refl
             (c.receive_piece-received.ensures.hears k first before at))
@@ -90,7 +93,7 @@ returns-in-Refused-clause-served g c = (
             c.lose-in-Refused.new.self.intake k first es) (append_assoc before made.0 lost.0) lost.1,
         taken,
         kept_frames taken _ _
-            (hears_kept (g.R.Output.state) _ c.args.octets.now _ _ _ c.begin_piece.new.self
+            (hears_kept (g.N.Output.state) (g.R.Output.state) _ c.args.octets.now _ _ _ c.begin_piece.new.self
             c.receive_piece-received.new.observer _ _ (kept_at (g.R.Output.state) c.begin_piece.new.self
             c.args.self.now.report c.args.octets.now c.begin_piece.ensures.refused c.begin_piece.ensures.counts)
             (ap (λ r. kept_in (g.R.Output.state) r) (sym c.lose-in-Refused.ensures.report))
@@ -124,7 +127,7 @@ returns-then-ends_in_bad_count-clause-served g c = (
             c.lose-then-ends_in_bad_count.new.self.intake k first es) (append_assoc before made.0 lost.0) lost.1,
         taken,
         kept_frames taken _ _
-            (hears_kept (g.R.Output.state) _ c.args.octets.now _ _ _ c.begin_piece.new.self
+            (hears_kept (g.N.Output.state) (g.R.Output.state) _ c.args.octets.now _ _ _ c.begin_piece.new.self
             c.receive_piece-received.new.observer _ _ (kept_at (g.R.Output.state) c.begin_piece.new.self
             c.args.self.now.report c.args.octets.now c.begin_piece.ensures.refused c.begin_piece.ensures.counts)
             (ap (λ r. kept_in (g.R.Output.state) r) (sym c.lose-then-ends_in_bad_count.ensures.report))
@@ -152,7 +155,7 @@ returns-else-ends_in_bad_count-clause-served g c = (
         made.1,
         taken,
         kept_frames taken _ _
-            (hears_kept (g.R.Output.state) _ c.args.octets.now _ _ _ c.begin_piece.new.self
+            (hears_kept (g.N.Output.state) (g.R.Output.state) _ c.args.octets.now _ _ _ c.begin_piece.new.self
             c.receive_piece-received.new.observer _ _ (kept_at (g.R.Output.state) c.begin_piece.new.self
             c.args.self.now.report c.args.octets.now c.begin_piece.ensures.refused c.begin_piece.ensures.counts) refl
             (c.receive_piece-received.ensures.hears k first before at))
@@ -160,3 +163,52 @@ returns-else-ends_in_bad_count-clause-served g c = (
         still_settled _ _ c.in-Accepted.is settled,
       ),
 )
+
+pub returns-then-frame_waits-clause-notes : goal.returns-then-frame_waits-clause-notes
+returns-then-frame_waits-clause-notes g c k first before at =
+    piece_turn (peer_of c.begin_piece.new.self.way) (told_in (g.N.Output.state) c.args.self.now.report) (told_in
+    (g.N.Output.state) c.begin_piece.new.self) (told_in (g.N.Output.state)
+    c.receive_piece-received.new.observer) (told_in (g.N.Output.state) c.receive_piece-received.new.observer)
+    c.begin_piece.ensures.told
+    (piece_told (g.N.Output.state) (g.R.Output.state) _ c.args.octets.now _ _ _ c.begin_piece.new.self
+    c.receive_piece-received.new.observer (c.receive_piece-received.ensures.hears k first before at)) refl
+
+pub returns-else-frame_waits-clause-notes : goal.returns-else-frame_waits-clause-notes
+returns-else-frame_waits-clause-notes g c k first before at =
+    piece_lost (peer_of c.begin_piece.new.self.way) (peer_of c.get-way.result) (told_in
+    (g.N.Output.state) c.args.self.now.report) (told_in (g.N.Output.state) c.begin_piece.new.self) (told_in
+    (g.N.Output.state) c.receive_piece-received.new.observer) (told_in (g.N.Output.state) c.lost.new.self)
+    (told_in (g.N.Output.state) c.lose.new.self.report) c.begin_piece.ensures.told
+    (piece_told (g.N.Output.state) (g.R.Output.state) _ c.args.octets.now _ _ _ c.begin_piece.new.self
+    c.receive_piece-received.new.observer (c.receive_piece-received.ensures.hears k first before at))
+    (ap peer_of c.begin_piece.ensures.way) c.lost.ensures.told (ap (told_in
+    (g.N.Output.state)) c.lose.ensures.report)
+
+pub returns-in-Refused-clause-notes : goal.returns-in-Refused-clause-notes
+returns-in-Refused-clause-notes g c k first before at =
+    piece_turn (peer_of c.begin_piece.new.self.way) (told_in (g.N.Output.state) c.args.self.now.report) (told_in
+    (g.N.Output.state) c.begin_piece.new.self) (told_in (g.N.Output.state)
+    c.receive_piece-received.new.observer) (told_in (g.N.Output.state) c.lose-in-Refused.new.self.report)
+    c.begin_piece.ensures.told
+    (piece_told (g.N.Output.state) (g.R.Output.state) _ c.args.octets.now _ _ _ c.begin_piece.new.self
+    c.receive_piece-received.new.observer (c.receive_piece-received.ensures.hears k first before at)) (ap (told_in
+    (g.N.Output.state)) c.lose-in-Refused.ensures.report)
+
+pub returns-then-ends_in_bad_count-clause-notes : goal.returns-then-ends_in_bad_count-clause-notes
+returns-then-ends_in_bad_count-clause-notes g c k first before at =
+    piece_turn (peer_of c.begin_piece.new.self.way) (told_in (g.N.Output.state) c.args.self.now.report) (told_in
+    (g.N.Output.state) c.begin_piece.new.self) (told_in (g.N.Output.state)
+    c.receive_piece-received.new.observer) (told_in (g.N.Output.state)
+    c.lose-then-ends_in_bad_count.new.self.report) c.begin_piece.ensures.told
+    (piece_told (g.N.Output.state) (g.R.Output.state) _ c.args.octets.now _ _ _ c.begin_piece.new.self
+    c.receive_piece-received.new.observer (c.receive_piece-received.ensures.hears k first before at)) (ap (told_in
+    (g.N.Output.state)) c.lose-then-ends_in_bad_count.ensures.report)
+
+pub returns-else-ends_in_bad_count-clause-notes : goal.returns-else-ends_in_bad_count-clause-notes
+returns-else-ends_in_bad_count-clause-notes g c k first before at =
+    piece_turn (peer_of c.begin_piece.new.self.way) (told_in (g.N.Output.state) c.args.self.now.report) (told_in
+    (g.N.Output.state) c.begin_piece.new.self) (told_in (g.N.Output.state)
+    c.receive_piece-received.new.observer) (told_in (g.N.Output.state) c.receive_piece-received.new.observer)
+    c.begin_piece.ensures.told
+    (piece_told (g.N.Output.state) (g.R.Output.state) _ c.args.octets.now _ _ _ c.begin_piece.new.self
+    c.receive_piece-received.new.observer (c.receive_piece-received.ensures.hears k first before at)) refl

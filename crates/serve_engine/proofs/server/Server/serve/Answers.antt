@@ -1,5 +1,6 @@
 use Rattle.std.proofs.Common.{[], ◌∷◌, inl, inr, refl, arith, ◌∙◌}
-use Rattle.serve_engine.specs.Servers.{place_of}
+use Rattle.serve_engine.specs.Servers.{place_of, told_of}
+use Rattle.serve_engine.proofs.Told.{run_more}
 use Rattle.serve_engine.proofs.Rounds.{endless, ends, next, none_served, start}
 use Rattle.serve_engine.proofs.server.Server.serve.Goals as goal
 
@@ -10,6 +11,7 @@ pub loop-turn-init : goal.loop-turn-init
 loop-turn-init g c = record {
   done = λ k first before at none. start _ _ _ k first before at none;
   manner = refl;
+  told = λ k first before at none. ([], refl);
   leads = ([], refl);
 }
 
@@ -19,6 +21,11 @@ loop-turn-preserved g c = record {
       next _ _ _ _ _ _ k first before c.loop-turn.invariant.manner
       (c.loop-turn.invariant.done k first before at none) (rw c.in-On.is at c.turn.ensures.served);
   manner = c.turn.ensures.manner ∙ c.loop-turn.invariant.manner;
+  told = λ k first before at none.
+      let so = c.loop-turn.invariant.done k first before at none in
+      run_more (told_of (g.N.Output.state) c.args.self.now) (told_of (g.N.Output.state) c.loop-turn.self)
+      (told_of (g.N.Output.state) c.turn.new.self) (c.loop-turn.invariant.told k first before at none)
+      (c.turn.ensures.notes _ first _ so.stands_by);
   leads = (
     place_of (g.R.Output.state) (g.K.Keeping.short) c.loop-turn.self (g.Q.ServerSource.state c.loop-turn.source)
         ∷ c.loop-turn.invariant.leads.0,
@@ -48,3 +55,16 @@ returns-clause-served g c = record {
   done = λ k first before at none.
       endless _ _ _ _ _ k first before (omega arith) (c.loop-turn.invariant.done k first before at none);
 }
+
+pub returns-in_default-clause-notes : goal.returns-in_default-clause-notes
+returns-in_default-clause-notes g c k first before at none = ([], refl)
+
+pub returns-in-End-clause-notes : goal.returns-in-End-clause-notes
+returns-in-End-clause-notes g c k first before at none =
+    let so = c.loop-turn.invariant.done k first before at none in
+    run_more (told_of (g.N.Output.state) c.args.self.now) (told_of (g.N.Output.state) c.loop-turn.self)
+    (told_of (g.N.Output.state) c.turn.new.self) (c.loop-turn.invariant.told k first before at none)
+    (c.turn.ensures.notes _ first _ so.stands_by)
+
+pub returns-clause-notes : goal.returns-clause-notes
+returns-clause-notes g c k first before at none = c.loop-turn.invariant.told k first before at none

@@ -5,7 +5,8 @@ use Rattle.syslog_collect.specs.History.{AcceptedEvent}
 use Rattle.serve_engine.specs.Events.{manner_of}
 use Rattle.serve_engine.specs.Intakes.{StandsBy}
 use Rattle.serve_engine.specs.Keepings.{Kept}
-use Rattle.serve_engine.specs.Servers.{LeadsFrom, place_of}
+use Rattle.serve_engine.specs.Notes.{TellTurns, Telling}
+use Rattle.serve_engine.specs.Servers.{LeadsFrom, place_of, told_of}
 use Rattle.serve_engine.proofs.Rounds.{SoFar}
 use Rattle.serve_engine.proofs.server.Server.serve.Given as goal
 
@@ -19,6 +20,11 @@ invariant-loop-turn g l = record {
       (place_of (g.R.Output.state) (g.K.Keeping.short) l.fn.self (g.Q.ServerSource.state l.fn.source))
       (place_of (g.R.Output.state) (g.K.Keeping.short) l.self (g.Q.ServerSource.state l.source)) l._turn k first before;
   manner : manner_of l.self.intake.collector ≡ manner_of l.fn.self.intake.collector;
+  told : (k : Kept) (first : List Entry) (before : List AcceptedEvent) →
+      StandsBy (g.S.Store.entries) (g.K.Keeping.stands) l.fn.self.intake k first before →
+      NoneWaits l.fn.self.intake.collector →
+      (turns : List Telling) × TellTurns turns (told_of (g.N.Output.state) l.fn.self) (told_of
+      (g.N.Output.state) l.self);
   leads : LeadsFrom (g.S.Store.entries) (g.K.Keeping.stands)
       (place_of (g.R.Output.state) (g.K.Keeping.short) l.fn.self (g.Q.ServerSource.state l.fn.source))
       (place_of (g.R.Output.state) (g.K.Keeping.short) l.self (g.Q.ServerSource.state l.source));

@@ -1,5 +1,6 @@
-use Rattle.std.proofs.Common.{false, refl}
+use Rattle.std.proofs.Common.{arith, false, inl, refl}
 use Rattle.serve_engine.proofs.Turns.{serves_commit, serves_event, serves_nothing}
+use Rattle.serve_engine.proofs.Told.{turn_none, turn_on}
 use Rattle.serve_engine.proofs.server.Server.step.Goals as goal
 
 pub returns-in-Opened-clause-served : goal.returns-in-Opened-clause-served
@@ -74,3 +75,36 @@ returns-in-Failed-clause-served g c = (
   serves_commit _ _ _ _ c.args.step _ _ _ _ _ (rw c.in-Failed.is refl) (rw c.in-Failed.is refl) c.finish-in-Failed.ensures.served
       c.finish-in-Failed.ensures.settled,
 )
+
+pub returns-in-Opened-clause-notes : goal.returns-in-Opened-clause-notes
+returns-in-Opened-clause-notes g c k first before at = c.opened.ensures.notes
+
+pub returns-in-Piece-clause-notes : goal.returns-in-Piece-clause-notes
+returns-in-Piece-clause-notes g c k first before at = c.piece.ensures.notes k first before at
+
+pub returns-in-Ended-clause-notes : goal.returns-in-Ended-clause-notes
+returns-in-Ended-clause-notes g c k first before at = c.ended.ensures.notes
+
+pub returns-in-Datagram-clause-notes : goal.returns-in-Datagram-clause-notes
+returns-in-Datagram-clause-notes g c k first before at = c.datagram.ensures.notes
+
+pub returns-in-TurnedAway-clause-notes : goal.returns-in-TurnedAway-clause-notes
+returns-in-TurnedAway-clause-notes g c k first before at = c.turned_away.ensures.notes
+
+pub returns-in-NotAllowed-clause-notes : goal.returns-in-NotAllowed-clause-notes
+returns-in-NotAllowed-clause-notes g c k first before at = c.not_allowed.ensures.notes
+
+pub returns-in-InputEnded-clause-notes : goal.returns-in-InputEnded-clause-notes
+returns-in-InputEnded-clause-notes g c k first before at = turn_none _ _ refl
+
+pub returns-in-Tick-clause-notes : goal.returns-in-Tick-clause-notes
+returns-in-Tick-clause-notes g c k first before at = turn_on 4 _ _ _
+    (omega arith) c.tick.ensures.notes c.tick.ensures.pace
+
+pub returns-in-Finished-clause-notes : goal.returns-in-Finished-clause-notes
+returns-in-Finished-clause-notes g c k first before at = turn_on 2 0 _ _ (omega arith) c.finish.ensures.notes
+    (inl c.finish.ensures.pace)
+
+pub returns-in-Failed-clause-notes : goal.returns-in-Failed-clause-notes
+returns-in-Failed-clause-notes g c k first before at = turn_on 2 0 _ _
+    (omega arith) c.finish-in-Failed.ensures.notes (inl c.finish-in-Failed.ensures.pace)

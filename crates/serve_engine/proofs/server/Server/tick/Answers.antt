@@ -1,8 +1,11 @@
-use Rattle.std.proofs.Common.{◌≡◌, arith, false, ap, subst, sym, ◌∙◌}
+use Rattle.std.proofs.Common.{◌≡◌, arith, false, ap, inl, inr, subst, sym, ◌∙◌}
+use Rattle.serve_engine.specs.declared.pace.Pace.{Pace}
 use Rattle.syslog_collect.specs.Collectors.{store_of}
 use Rattle.serve_engine.specs.Intakes.{IsCommitted, StandsBy}
 use Rattle.serve_engine.proofs.Turns.{unless_map}
 use Rattle.serve_engine.proofs.Counted.{commit_behind, dropped_twice}
+use Rattle.serve_engine.proofs.Told.{few_more, few_then}
+use Rattle.serve_engine.specs.Paces.{PaysFor}
 use Rattle.serve_engine.proofs.server.Server.tick.Goals as goal
 
 pub returns-in-On-clause-served : goal.returns-in-On-clause-served
@@ -40,3 +43,20 @@ returns-in-On-clause-kept g c = (
 
 pub returns-in_default-clause-kept : goal.returns-in_default-clause-kept
 returns-in_default-clause-kept g c = c.commit.ensures.kept
+
+pub returns-in-On-clause-notes : goal.returns-in-On-clause-notes
+returns-in-On-clause-notes g c =
+    few_then 2 2 _ _ _ (few_then 1 1 _ _ _ c.commit.ensures.notes c.count_time.ensures.notes)
+    c.finish_tick.ensures.notes
+
+pub returns-in-On-clause-pace : goal.returns-in-On-clause-pace
+returns-in-On-clause-pace g c =
+    inr (subst (λ (p : Pace). PaysFor p c.finish_tick.new.self.report.pace c.args.millis) c.commit.ensures.pace
+    (subst (λ (p : Pace). PaysFor c.commit.new.self.report.pace p c.args.millis)
+    (sym c.finish_tick.ensures.pace) c.count_time.ensures.pace))
+
+pub returns-in_default-clause-notes : goal.returns-in_default-clause-notes
+returns-in_default-clause-notes g c = few_more 1 4 _ _ (omega arith) c.commit.ensures.notes
+
+pub returns-in_default-clause-pace : goal.returns-in_default-clause-pace
+returns-in_default-clause-pace g c = inl c.commit.ensures.pace

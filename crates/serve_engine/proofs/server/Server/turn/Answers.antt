@@ -1,5 +1,6 @@
-use Rattle.std.proofs.Common.{◌∙◌, true, false, refl, sym}
+use Rattle.std.proofs.Common.{◌∙◌, arith, inl, true, false, refl, sym}
 use Rattle.serve_engine.proofs.Rounds.{as_short, rests_full, stepped, tried}
+use Rattle.serve_engine.proofs.Told.{turn_on}
 use Rattle.serve_engine.proofs.server.Server.turn.Goals as goal
 
 pub returns-then-self-clause-served : goal.returns-then-self-clause-served
@@ -23,3 +24,14 @@ returns-clause-served g c =
       closes = c.step.ensures.served.1;
     }) c.step.ensures.silent c.step.ensures.manner c.step.ensures.full c.step.ensures.turn
     c.step.ensures.last
+
+pub returns-then-self-clause-notes : goal.returns-then-self-clause-notes
+returns-then-self-clause-notes g c k first before at = turn_on 1 0 _ _ (omega arith) c.try_again.ensures.notes
+    (inl c.try_again.ensures.pace)
+
+pub returns-then-is_short-clause-notes : goal.returns-then-is_short-clause-notes
+returns-then-is_short-clause-notes g c k first before at = turn_on 1 0 _ _ (omega arith) c.commit.ensures.notes
+    (inl c.commit.ensures.pace)
+
+pub returns-clause-notes : goal.returns-clause-notes
+returns-clause-notes g c k first before at = c.step.ensures.notes k first before at

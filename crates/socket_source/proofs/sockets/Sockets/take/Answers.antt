@@ -9,3 +9,6 @@ returns-in-Some-clause-bounded g c =
     (ready_in (line c.use_room.new.self)) c.take-taken.new.self c.use_room.new.self.held c.take-taken.new.buf c.take-taken.result.step
     (c.use_room.ensures.stays ∙ c.settle.ensures.stays) c.share-share.ensures.share c.take-taken.ensures.bounded c.settle.ensures.longer
     c.use_room.ensures.longer
+
+pub returns-in-None-clause-own : goal.returns-in-None-clause-own
+returns-in-None-clause-own g c = c.take_input-taken.ensures.own _ _

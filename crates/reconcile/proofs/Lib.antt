@@ -1,0 +1,11 @@
+pub mod Sets
+pub mod Parts
+pub mod Costs
+pub mod Done
+pub mod Settling
+pub mod Turns
+pub mod Popping
+pub mod Gossip
+pub mod Cuts
+pub mod Found
+pub mod Locals

@@ -1,0 +1,6 @@
+pub mod Ranges
+pub mod Unions
+pub mod Requests
+pub mod Honest
+pub mod Reconciling
+pub mod Gossip

@@ -1,0 +1,148 @@
+//! A set in memory.
+
+ghost use Rattle.std.specs.Prelude.{◌≡◌, ◌↔◌, ◌∷◌, [], IfOk, IsTrue, length};
+ghost use Rattle.archive_text.specs.Entries.{Entry, Has, IsAscending, IsEntry};
+ghost use Rattle.archive_text.specs.Text.{IsArchive};
+ghost use Rattle.archive_text.specs.declared.limits.TheConstants.{ENTRY_MAX};
+ghost use Rattle.archive_laws.specs.Props.{archive_prop};
+ghost use Rattle.reconcile.specs.Ranges.{AreThose, Covers, IsInside};
+ghost use Rattle.reconcile.specs.Unions.{IsJoined};
+
+use crate::checking::is_covered;
+use crate::cutting::parts_of;
+use crate::part::Part;
+use crate::place::Place;
+use crate::range::Range;
+use crate::ranged_set::RangedSet;
+use crate::records::Records;
+use crate::searching::{count_below, has_place, insert_all, insert_place};
+use crate::stopped::SetFault;
+use crate::sum::Sum;
+use crate::summing::sum_of;
+use archive_text::{ENTRY_MAX, entry_of_octets};
+use std::alloc::Global;
+
+/// A set of records in memory.
+#[derive(Drop)]
+pub struct MemorySet {
+    alloc: Global,
+    places: Vec<Place>,
+    ghost archive: { IsArchive ENTRY_MAX places.items } by { archive_prop ENTRY_MAX places.items },
+}
+
+// The entries of a set in a range.
+fn entries_in<'a>(places: &'a [Place], range: &Range) -> &'a [Place]
+    requires { IsAscending places.now }
+    ensures { AreThose (IsInside range.now) places.now result.now }
+{
+    let (_, rest) = places.split_at(count_below(places, &range.low));
+    match &range.high {
+        None => rest,
+        Some(high) => {
+            let (front, _) = rest.split_at(count_below(rest, high));
+            front
+        }
+    }
+}
+
+// Whether a place is in the range of one of the parts, and not among others.
+fn is_lacking(place: &Place, parts: &[Part], others: &[Place]) -> bool
+    requires { IsAscending others.now }
+    ensures { IsTrue result ↔ (Covers parts.now place.now × ¬ (Has others.now place.now)) }
+{
+    is_covered(place, parts) && !has_place(others, place)
+}
+
+// Those entries of a set that are in the ranges of some parts, and not among others.
+fn lacking(
+    alloc: Global,
+    places: &[Place],
+    parts: &[Part],
+    others: &[Place],
+) -> Result<Vec<Place>, SetFault>
+    requires places { IsAscending places.now }
+    requires others { IsAscending others.now }
+    ensures { IfOk result (λ those. AreThose (λ x. Covers parts.now x × ¬ (Has others.now x))
+        places.now those.items) }
+{
+    let mut those = Vec::new(alloc);
+    'places: for place in places {
+        if !is_lacking(place, parts, others) {
+            continue;
+        }
+        those.push(place.copy(alloc)?)?;
+    }
+    Ok(those)
+}
+
+impl MemorySet {
+    /// A set without records.
+    pub fn new(alloc: Global) -> MemorySet
+        ensures { ⟦<MemorySet as RangedSet>⟧.entries result ≡ [] }
+    {
+        MemorySet {
+            alloc,
+            places: Vec::new(alloc),
+        }
+    }
+
+    /// Adds the record of which these are the canonical octets.
+    ///
+    /// # Errors
+    /// `Failed`: they are the canonical form of no record, or more than `ENTRY_MAX`; `Memory`.
+    pub fn insert(&mut self, octets: &[u8]) -> Result<(), SetFault>
+        ensures { IfOk result (λ _. (e : Entry) × IsEntry e × (e.octets ≡ octets.now)
+            × IsJoined (⟦<MemorySet as RangedSet>⟧.entries self.old) (e ∷ [])
+            (⟦<MemorySet as RangedSet>⟧.entries self.new)) }
+    {
+        let Ok(entry) = entry_of_octets(octets) else {
+            return Err(SetFault::Failed);
+        };
+        if octets.len() > ENTRY_MAX {
+            return Err(SetFault::Failed);
+        }
+        let place = Place::of(self.alloc, &entry)?;
+        insert_place(self.alloc, &mut self.places, &place)
+    }
+
+    /// The canonical octets of the record at an index; None behind the last.
+    pub fn get(&self, index: usize) -> Option<&[u8]> {
+        self.places.get(index).map(|place| place.view().octets)
+    }
+
+    /// How many records there are.
+    pub fn len(&self) -> usize
+        ensures { result ≡ length (⟦<MemorySet as RangedSet>⟧.entries self.now) }
+    {
+        self.places.len()
+    }
+}
+
+impl RangedSet for MemorySet {
+    ghost entries = { λ s. s.places.items };
+
+    fn sum(&mut self, range: &Range) -> Result<Sum, SetFault> {
+        sum_of(entries_in(self.places.as_slice(), range))
+    }
+
+    fn parts(&mut self, range: &Range, most: u64) -> Result<Vec<Part>, SetFault> {
+        let entries = entries_in(self.places.as_slice(), range);
+        parts_of(self.alloc, entries, range, most)
+    }
+
+    fn within(&mut self, parts: &[Part]) -> Result<Records, SetFault> {
+        let none = Records::new(self.alloc);
+        self.lacking(parts, &none)
+    }
+
+    fn lacking(&mut self, parts: &[Part], got: &Records) -> Result<Records, SetFault> {
+        let those = lacking(self.alloc, self.places.as_slice(), parts, got.entries())?;
+        Ok(Records::of(those))
+    }
+
+    fn add(&mut self, records: &Records) -> Result<(), SetFault> {
+        insert_all(self.alloc, &mut self.places, records.entries())
+    }
+
+    ghost archive = { λ s. s.archive };
+}
