@@ -50,7 +50,7 @@ def journal_names(store):
 
 def killed(runs, store, words, shares, before, sent):
     """A server that is killed while all send; what was read before has to be there, and what is read before the kill is
-    given."""
+    given. The shares have more than the octets of a checkpoint that no server was sent before."""
     with runs.server(*words, store=store) as server:
         found = server.held()
         runs.results.check("what was read before a kill is there", before <= found <= set(sent), str(server.told()))
@@ -59,23 +59,30 @@ def killed(runs, store, words, shares, before, sent):
         # segments of the same records have the names that are there, but each checkpoint begins another journal
         seen = until(lambda: journal_names(store) - begun)
         before = server.held()
-        runs.results.check("a kill comes after a checkpoint", seen and before, str(server.lines()))
+        runs.results.check("a kill comes after a checkpoint", seen and before, str(server.told()))
         server.kill()
         for one in senders:
             one.join()
     return before
 
 
+def shares_of(sent):
+    """What four senders send of these records; some of them come from two or three."""
+    count = len(sent)
+    return [("counted", sent[:count * 2 // 5]), ("counted", sent[count * 3 // 10:count * 7 // 10]), ("counted", sent[count * 3 // 5:]),
+            ("lf", [one for one in sent if b"\n" not in one])]
+
+
 def kills(runs):
     """A server is killed three times while four send; started again and sent everything, its store is the same as that
     of a server that was not."""
-    sent = records("serving", 0, 3_000, 2_200)
-    shares = [("counted", sent[:1_200]), ("counted", sent[900:2_100]), ("counted", sent[1_800:]),
-              ("lf", [one for one in sent if b"\n" not in one])]
+    rounds = [records("serving", first, 3_000, 2_200) for first in range(0, 9_000, 3_000)]
+    sent = sum(rounds, [])
     words = [*any_port("counted"), *any_port("lf"), *SOON, "--checkpoint", 1]
     store, other, before = runs.store(), runs.store(), set()
-    for _ in range(3):
-        before = killed(runs, store, words, shares, before, sent)
+    for fresh in rounds:
+        before = killed(runs, store, words, shares_of(fresh), before, sent)
+    shares = shares_of(sent)
     answers = []
     for one in store, other:
         with runs.until_eof(*words, store=one) as server:
