@@ -22,7 +22,7 @@ from contextlib import suppress
 from datetime import date, timedelta
 from pathlib import Path
 
-from lib.loopback import HERE
+from lib.loopback import HERE, own_network
 from lib.program import Program
 from lib.quiet import bound
 from lib.reference import counted, counted_frames
@@ -353,6 +353,45 @@ def places(runs):
             other.close()
 
 
+def hosts(runs, told):
+    """The addresses of IPv6 that begin with the same 64 bits have the places of one; others, and those of IPv4, have their own."""
+    with runs.server("--lf", "[::1]:0", *any_port("lf"), "--commit", 5, "--connections", 8, "--per-peer", 1) as server:
+        ipv6, ipv4 = server.places()
+        with server.open(ipv6, "2001:db8::1") as one:
+            one.sendall(record(b"host", 0) + b"\n")
+            until(lambda: record(b"host", 0) in held(server, set()))
+            with server.open(ipv6, "2001:db8::2") as other:
+                told.append(("an address of a host that has as many as it may gets no more", until_closed(other)))
+            for n, (where, source) in enumerate([(ipv6, "2001:db8:0:1::1"), (ipv4, HERE), (ipv4, ELSEWHERE)], 1):
+                with server.open(where, source) as other:
+                    other.sendall(record(b"host", n) + b"\n")
+                    seen = until(lambda n=n: record(b"host", n) in held(server, set()), 5)
+                told.append((f"another host has places of its own, {source}", seen))
+
+
+def places_of_hosts(runs):
+    told, tell = multiprocessing.Pipe(False)
+
+    def run():
+        try:
+            own_network("2001:db8::1", "2001:db8::2", "2001:db8:0:1::1")
+        except OSError as error:
+            tell.send(str(error))
+            return
+        found = []
+        hosts(runs, found)
+        tell.send(found)
+
+    process = forked(run)
+    found = told.recv() if told.poll(60) else [("the places of hosts: it comes to its end", False)]
+    process.join()
+    if isinstance(found, str):
+        runs.results.skip("the places of hosts", f"a network of its own is not to be had: {found}")
+        return
+    for name, holds in found:
+        runs.results.check(name, holds)
+
+
 def modes_of(path, modes, found):
     """The modes that a path has had."""
     while not found.is_set():
@@ -387,7 +426,7 @@ def mode_before_its_name(runs):
         runs.results.check("a path of 107 octets at most", seen, str(server.told()))
 
 
-FEW = [buffer_that_is_larger, socket_without_a_port, silence_while_stopped, places, mode_before_its_name]
+FEW = [buffer_that_is_larger, socket_without_a_port, silence_while_stopped, places, places_of_hosts, mode_before_its_name]
 
 
 def may_be_open():

@@ -1,8 +1,11 @@
 """`collect` and other receivers over the loopback."""
+import ctypes
+import fcntl
 import itertools
 import os
 import select
 import socket
+import struct
 import subprocess
 import time
 from pathlib import Path
@@ -12,6 +15,24 @@ HERE = "127.0.0.1"
 NEVER = 30  # seconds, after which a run is given up
 # below those that the system chooses from, so that no other socket has one by chance
 PORTS = range(12_000, 32_000)
+
+
+CLONE_NEWNET = 0x40000000  # unshare(2)
+SIOCSIFFLAGS, SIOCSIFADDR = 0x8914, 0x8916  # netdevice(7)
+UP = 0x41  # IFF_UP and IFF_RUNNING
+
+
+def own_network(*addresses):
+    """Moves this process to a network of its own, whose loopback has these addresses of IPv6 too."""
+    libc = ctypes.CDLL(None, use_errno=True)
+    if libc.unshare(CLONE_NEWNET):
+        raise OSError(ctypes.get_errno(), os.strerror(ctypes.get_errno()))
+    with socket.socket(socket.AF_INET, socket.SOCK_DGRAM) as one:
+        fcntl.ioctl(one, SIOCSIFFLAGS, struct.pack("16sH14x", b"lo", UP))
+    with socket.socket(socket.AF_INET6, socket.SOCK_DGRAM) as one:
+        for address in addresses:
+            octets = socket.inet_pton(socket.AF_INET6, address)
+            fcntl.ioctl(one, SIOCSIFADDR, struct.pack("16sIi", octets, 128, socket.if_nametoindex("lo")))
 
 
 def kind_of(transport):

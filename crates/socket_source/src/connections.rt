@@ -32,13 +32,13 @@ pub(crate) struct Connections {
     pub(crate) limit: usize,
     // the first descriptor that none is to have
     kept: RawFd,
-    // how many connections each address has, and may have
+    // how many connections each host has, and may have
     pub(crate) peers: Peers,
     pub(crate) per_peer: u64,
     ghost few: { limit ≤ 16384 },
 }
 
-// Whether a connection's address has more connections, or as many and this one was silent for longer.
+// Whether a connection's host has more connections, or as many and this one was silent for longer.
 fn is_above(rank: (u64, Duration), other: (u64, Duration)) -> bool
     ensures above { result ≡ true → other.0 ≤ rank.0 }
     ensures below { result ≡ false → rank.0 ≤ other.0 }
@@ -70,7 +70,7 @@ impl Connections {
         })
     }
 
-    // A number for a connection more with this descriptor, if there is room for it, and its address
+    // A number for a connection more with this descriptor, if there is room for it, and its host
     // may have one more.
     fn vacant_number(&self, descriptor: RawFd, peer: u128) -> Option<usize>
         ensures number { IfSome result (λ key. (key ≡ self.now.streams.vacant_key) × (key < self.now.limit)) }
@@ -101,7 +101,7 @@ impl Connections {
     ) -> Option<u32>
         ensures kept { IfSome result (λ conn. IsOpenedAs self.old.streams self.new.streams self.old.limit conn) }
         ensures framing { IfSome result (λ conn. framing_in self.new.streams conn ≡ Some framing) }
-        // An address has no more than it may.
+        // A host has no more than it may.
         ensures few { IfSome result (λ conn. count_of self.new.peers peer ≤ self.old.per_peer) }
         ensures none { IfNone result ((n : ℕ) → open_in self.new.streams n ≡ open_in self.old.streams n) }
         ensures limit { self.new.limit ≡ self.old.limit }
@@ -171,14 +171,14 @@ impl Connections {
         }
     }
 
-    /// Whether an address has no connection, and another has to end before it can have one.
+    /// Whether a host has no connection, and another has to end before it can have one.
     pub(crate) fn lacks_place(&self, peer: u128) -> bool
         ensures { IsTrue result → count_of self.now.peers peer ≡ 0 }
     {
         self.streams.len() >= self.limit && self.peers.count(peer) == 0
     }
 
-    // How many connections the address of a connection has, and for how long this one was silent.
+    // How many connections the host of a connection has, and for how long this one was silent.
     fn rank(&self, key: usize, now: Instant) -> Option<(u64, Duration)>
         ensures count { IfSome result (λ rank. rank.0 ≡ rank_in self.now.peers self.now.streams key) }
         ensures is_open { IfSome result (λ rank. open_in self.now.streams key ≡ true) }
@@ -193,7 +193,7 @@ impl Connections {
         Some((count, silence))
     }
 
-    /// The connection that makes room for an address that has none: of an address that has most, the
+    /// The connection that makes room for a host that has none: of a host that has most, the
     /// one that was silent longest.
     pub(crate) fn find_displaced(&self, now: Instant) -> Option<u32>
         ensures is_open { IfSome result (λ conn. open_in self.now.streams conn ≡ true) }

@@ -13,7 +13,7 @@ ghost use Rattle.socket_source.specs.declared.step.ServerStep.TheVariants.{Datag
 use crate::allowed::is_peer;
 use crate::bound::{Bound, accept_from, receive};
 use crate::connections::Connections;
-use crate::peers::peer_number;
+use crate::peers::host_number;
 use crate::ready::listener_number;
 use crate::refusal::{Reading, Refusal, Retry, retry_of};
 use crate::share::Share;
@@ -117,7 +117,7 @@ impl OpenSockets {
             return ServerStep::NotAllowed { listener, peer };
         }
         let first = listener_number(self.listeners.len());
-        let number = peer_number(peer);
+        let number = host_number(peer);
         let registry = self.poll.registry();
         match self
             .connections
@@ -141,7 +141,7 @@ impl OpenSockets {
     fn lacks_place(&self, peer: SocketAddr) -> bool
         ensures { result ≡ true → is_peer (networks_of self.now.allowed) peer ≡ true }
     {
-        is_peer(&self.allowed, peer) && self.connections.lacks_place(peer_number(peer))
+        is_peer(&self.allowed, peer) && self.connections.lacks_place(host_number(peer))
     }
 
     // Opens a connection that was accepted, or ends another to make room for it: then it is opened in

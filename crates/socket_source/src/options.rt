@@ -9,9 +9,10 @@ pub struct SourceOptions {
     /// [`CONNECTIONS_MAX`](crate::CONNECTIONS_MAX); a number outside is taken for the nearest of
     /// these.
     pub connections: usize,
-    /// How many connections one address may have open at once, at least 1. An IPv6 address that
-    /// stands for one of IPv4 counts as that one. If all places are taken, an address that has none
-    /// gets that of the connection that was silent longest of an address that has most.
+    /// How many connections one host may have open at once, at least 1. An address of IPv4 is a host,
+    /// and so are the addresses of IPv6 that begin with the same 64 bits; one that stands for an
+    /// address of IPv4 counts as that one. If all places are taken, a host that has none gets that of
+    /// the connection that was silent longest of a host that has most.
     pub per_peer: usize,
     /// How long a connection may give nothing before it is closed, to within a period; None means
     /// for ever.
