@@ -286,8 +286,8 @@ static PyObject *params_of(struct state *state, const uint8_t *record, const str
 
     for (size_t i = 0; params && i + 1 < count; i += 2) {
         struct syslogbox_span name = spans[i].span, value = spans[i + 1].span;
-        PyObject *text = meaning(state, record + value.offset, value.len);
-        PyObject *both = pair(text_of(record + name.offset, name.len), text);
+        PyObject *first = text_of(record + name.offset, name.len);
+        PyObject *both = pair(first, first ? meaning(state, record + value.offset, value.len) : NULL);
 
         if (!both || PyTuple_SetItem(params, (Py_ssize_t)(i / 2), both))
             Py_CLEAR(params);
@@ -631,6 +631,14 @@ static PyObject *fault_text(PyObject *module, PyObject *const *args, Py_ssize_t 
 
 /* ---- streams and lists */
 
+/* The octets of a frame that was found in a piece; None if it was too long. */
+static PyObject *octets_found(const uint8_t *piece, int answer, const struct syslogbox_found *found)
+{
+    if (answer != SYSLOGBOX_SCAN_FRAME)
+        return Py_NewRef(Py_None);
+    return PyBytes_FromStringAndSize((const char *)piece + found->start, (Py_ssize_t)(found->end - found->start));
+}
+
 /*
  * What comes next in a stream: scan(framing, longest, held, at, inside, left). The answer is (found, at, answer, start,
  * inside, left): of each frame where it ends in `held`, and its octets or None, and where the scanner is then.
@@ -665,12 +673,9 @@ static PyObject *scan(PyObject *module, PyObject *const *args, Py_ssize_t count,
         if (answer < -1)
             break;
         if (answer > 0) {
-            PyObject *octets = answer == SYSLOGBOX_SCAN_FRAME
-                                   ? PyBytes_FromStringAndSize((const char *)held.at + at + found.start,
-                                                               (Py_ssize_t)(found.end - found.start))
-                                   : Py_NewRef(Py_None);
+            PyObject *end = PyLong_FromSize_t(at + found.used);
 
-            frame = pair(PyLong_FromSize_t(at + found.used), octets);
+            frame = pair(end, end ? octets_found(held.at + at, answer, &found) : NULL);
             if (!frame || PyList_Append(frames, frame)) {
                 Py_XDECREF(frame);
                 Py_DECREF(frames);

@@ -16,6 +16,7 @@ import io
 import os
 import re
 import shlex
+import shutil
 import subprocess
 import sys
 import sysconfig
@@ -63,20 +64,21 @@ def _compiled():
     """The module in C; None where it cannot be compiled, which is told."""
     if sys.implementation.name != "cpython" or sys.version_info < (3, 10) or sysconfig.get_config_var("Py_GIL_DISABLED"):
         return None
-    with tempfile.TemporaryDirectory() as place:
-        made = Path(place) / MODULE
-        words = [*shlex.split(os.environ.get("CC") or sysconfig.get_config_var("CC") or "cc"), "-O2", "-fPIC", "-shared", "-s",
-                 "-fvisibility=hidden", "-Wl,-z,relro,-z,now,-z,noexecstack,--build-id=none", f"-I{_header().parent}",
-                 f"-I{sysconfig.get_config_var('INCLUDEPY')}", "-o", str(made), str(HERE / SOURCE)]
-        try:
+    compilers = filter(None, [os.environ.get("CC"), sysconfig.get_config_var("CC"), "cc"])
+    compiler = next((words for words in map(shlex.split, compilers) if shutil.which(words[0])), None)
+    if compiler is None:
+        said = "there is no compiler"
+    else:
+        with tempfile.TemporaryDirectory() as place:
+            made = Path(place) / MODULE
+            words = [*compiler, "-O2", "-fPIC", "-shared", "-s", "-fvisibility=hidden",
+                     "-Wl,-z,relro,-z,now,-z,noexecstack,--build-id=none", f"-I{_header().parent}",
+                     f"-I{sysconfig.get_config_var('INCLUDEPY')}", "-o", str(made), str(HERE / SOURCE)]
             done = subprocess.run(words, stdout=subprocess.DEVNULL, stderr=subprocess.PIPE)
-        except OSError as missing:
-            said = str(missing)
-        else:
             if not done.returncode:
                 return made.read_bytes()
-            said = done.stderr.decode(errors="replace")
-    print(f"The module in C is left out, since it cannot be compiled here: {said.strip()}", file=sys.stderr)
+            said = done.stderr.decode(errors="replace").strip()
+    print(f"The module in C is left out, since it cannot be compiled here: {said}", file=sys.stderr)
     return None
 
 

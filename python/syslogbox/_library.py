@@ -162,7 +162,7 @@ def in_c(function: _F) -> _F:
     # `help` shows no types, and the defaults as numbers
     shown = [one.replace(annotation=one.empty, default=one.empty if one.default is one.empty else int(one.default))
              for one in inspect.signature(function).parameters.values()]
-    text = f"{function.__name__}{inspect.Signature(shown)}\n--\n\n{function.__doc__}"
+    text = f"{function.__name__}{inspect.Signature(shown)}\n--\n\n{function.__doc__ or ''}"
     return cast(_F, _in_c.bound(function, function.__name__, text, function.__module__))
 
 
