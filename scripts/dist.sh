@@ -1,6 +1,7 @@
 #!/bin/sh
 # Makes the packages in build/dist: a tarball with a static program and the library for C; where python3 is there, a wheel and
-# an sdist for Python; and where dpkg-deb is there, Debian packages of the program and the library.
+# an sdist for Python, the wheel with its module in C where Python's headers are there; and where dpkg-deb is there, Debian
+# packages of the program and the library.
 # Of one release they are the same octets wherever they are made: their time is that of the version in CHANGELOG.md.
 set -eu
 umask 022
@@ -57,7 +58,7 @@ recipes() {
     files "$1" cluster/README.md cluster/*.sh cluster/*.py cluster/slurm/*.sh
 }
 bindings() {
-    files "$1" python/*.py python/pyproject.toml python/syslogbox/*.py python/syslogbox/py.typed go/*.go go/go.mod
+    files "$1" python/*.py python/*.c python/pyproject.toml python/syslogbox/*.py python/syslogbox/py.typed go/*.go go/go.mod
 }
 
 # The library for C below a folder, as install-library.sh puts it there, without symbols for a debugger.
@@ -93,9 +94,10 @@ tarball() {
 
 maintainer="Cupolachive maintainers <maintainers@users.noreply.cupolachive.example>"
 
-# CHANGELOG.md in the form of Debian.
+# CHANGELOG.md in the form of Debian, without what is not released.
 changelog() {
     of=""
+    sed '/^## Unreleased$/,/^## [0-9]/{/^## [0-9]/!d}' CHANGELOG.md > "$dist/changes"
     while IFS= read -r line; do
         case $line in
             "## "*)
@@ -108,7 +110,8 @@ changelog() {
             "- "*) echo "  * ${line#- }" ;;
             "  "*) echo "  $line" ;;
         esac
-    done < CHANGELOG.md
+    done < "$dist/changes"
+    rm "$dist/changes"
     printf '\n -- %s  %s\n' "$maintainer" "$of"
 }
 

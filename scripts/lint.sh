@@ -57,6 +57,12 @@ c() {
     return $found
 }
 
+# The module in C for Python, with the headers of a Python that it is for, 3.10 or later.
+headers=$(python3 -c 'import sys, sysconfig; print(sysconfig.get_config_var("INCLUDEPY") if sys.version_info >= (3, 10) else "")')
+module() {
+    gcc -O1 -Wall -Wextra -pedantic -Werror -Iinclude -isystem "$headers" -fPIC -c -o /dev/null python/_calls.c
+}
+
 # go asks pkg-config for the library for C, and keeps what it was told of another folder, but for other flags of its own.
 go_code() {
     build=$PWD/build
@@ -66,6 +72,11 @@ go_code() {
 if here pyflakes "$pyflakes" --version; then lint pyflakes python; fi
 if here shellcheck shellcheck --version; then lint shellcheck shells; fi
 lint "gcc -Wall -Wextra -pedantic" c
+if [ -e "$headers/Python.h" ]; then
+    lint "gcc, the module in C for Python" module
+else
+    echo "SKIPPED gcc, the module in C for Python: there is no Python.h"
+fi
 lint "scripts/options.py --check" python3 scripts/options.py --check
 lint "scripts/unused.py" python3 scripts/unused.py
 if here "go vet" go version && here "go vet" pkg-config --version; then lint "go vet" go_code; fi

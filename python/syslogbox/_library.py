@@ -1,14 +1,18 @@
-"""The calls of libsyslogbox by ctypes."""
+"""The calls of libsyslogbox by ctypes, and the module in C that makes some of them faster, where it is there."""
 from __future__ import annotations
 
 import ctypes
+import importlib
+import inspect
 import operator
 import os
 import struct
+import sys
 from pathlib import Path
-from typing import Any, Callable, SupportsIndex, Tuple, Type
+from types import ModuleType
+from typing import Any, Callable, Optional, SupportsIndex, Tuple, Type, TypeVar, cast
 
-from ._faults import Kind, SyslogError
+from ._faults import FieldError, Kind, RecordError, SyslogError
 
 NAME = "libsyslogbox.so.0"
 OCTETS, SIZE, POINTER = ctypes.c_char_p, ctypes.c_size_t, ctypes.c_void_p
@@ -131,6 +135,43 @@ _version = _call("library_version", ctypes.c_uint32)
 _fault_text = _call("fault_text", ctypes.c_size_t, POINTER, POINTER, SIZE)
 
 
+def _module() -> Optional[ModuleType]:
+    """The module in C (_calls.c), if it was built for this Python, and the environment does not say otherwise."""
+    if sys.version_info < (3, 10) or os.environ.get("SYSLOGBOX_CTYPES"):
+        return None
+    try:
+        module = importlib.import_module("syslogbox._calls")
+    except ImportError:
+        return None
+    names = "check", "canonical", "view", "spans", "value", "build", "packet", "trimmed", "fault_text", "scan"
+    module.set_up({name: ctypes.cast(_keeping[f"syslogbox_{name}"], POINTER).value for name in names},
+                  RecordError, FieldError)
+    return module
+
+
+_in_c = _module()
+#: Whether the calls on records are those of the module in C; by ctypes they give the same, and take longer.
+IN_C = _in_c is not None
+_F = TypeVar("_F", bound=Callable[..., Any])
+
+
+def in_c(function: _F) -> _F:
+    """The function of this name in C, if it is there, which leaves to this one what it does not understand."""
+    if _in_c is None:
+        return function
+    # `help` shows no types, and the defaults as numbers
+    shown = [one.replace(annotation=one.empty, default=one.empty if one.default is one.empty else int(one.default))
+             for one in inspect.signature(function).parameters.values()]
+    text = f"{function.__name__}{inspect.Signature(shown)}\n--\n\n{function.__doc__ or ''}"
+    return cast(_F, _in_c.bound(function, function.__name__, text, function.__module__))
+
+
+def shows(record: Type[object], element: Type[object]) -> None:
+    """Tells the module in C the classes of records and elements."""
+    if _in_c is not None:
+        _in_c.shows(record, element)
+
+
 def library_version() -> Tuple[int, int, int]:
     """The version of the library that is loaded, as three numbers; `__version__` is that of the package.
 
@@ -171,6 +212,7 @@ def text_of(octets: bytes) -> Text:
     return Text(octets, len(octets))
 
 
+@in_c
 def fault_text(kind: int, where: int, offset: int) -> str:
     """What a fault of the library says."""
     fault, out = Fault(kind, where, offset), bytearray(128)

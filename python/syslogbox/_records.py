@@ -108,6 +108,10 @@ class Record:
         return json.dumps(self.asdict(), ensure_ascii=False, separators=(",", ":"))
 
 
+library.shows(Record, Element)
+
+
+@library.in_c
 def is_record(record: bytes) -> bool:
     """Whether the octets are a record of RFC 5424."""
     try:
@@ -117,6 +121,7 @@ def is_record(record: bytes) -> bool:
         raise library.no_octets(record) from None
 
 
+@library.in_c
 def check(record: bytes) -> None:
     """Returns nothing if the octets are a record of RFC 5424.
 
@@ -132,6 +137,7 @@ def check(record: bytes) -> None:
         raise refusal(record)
 
 
+@library.in_c
 def refusal(record: bytes) -> RecordError:
     """Why octets are not a record."""
     fault = library.Fault()
@@ -139,6 +145,7 @@ def refusal(record: bytes) -> RecordError:
     return RecordError(fault.kind, fault.field, fault.offset)
 
 
+@library.in_c
 def canonical(record: bytes) -> bytes:
     """The one canonical form of the record; equal records have equal octets. Raises RecordError.
 
@@ -149,6 +156,7 @@ def canonical(record: bytes) -> bytes:
     return library.text(RecordError, library.canonical, 2 * size + 7, record, size)
 
 
+@library.in_c
 def view(record: bytes) -> Record:
     """The parts of the record, its elements in the order of the octets. Raises RecordError.
 
@@ -225,6 +233,7 @@ def _number(name: str, value: int) -> int:
     return min(library.whole(name, value) & 2 ** 64 - 1, 2 ** 32 - 1)
 
 
+@library.in_c
 def build(record: Record) -> bytes:
     """The canonical form of the record of these parts. Raises FieldError, whose `field` is the one that is refused.
 
@@ -255,6 +264,7 @@ class Dialect(enum.IntEnum):
     WIDE = 2
 
 
+@library.in_c
 def trimmed(frame: bytes) -> bytes:
     """The frame without the line end or the NUL that a sender may have put behind the record, as by `--trim`.
 
@@ -264,6 +274,7 @@ def trimmed(frame: bytes) -> bytes:
     return frame[:library.trimmed(frame, library.size(frame))]
 
 
+@library.in_c
 def legacy(packet: bytes, year: int, offset_minutes: int = 0, *, dialect: Dialect = Dialect.BSD) -> bytes:
     """The canonical form of the record that a packet is read as.
 

@@ -36,6 +36,7 @@ class Readable(Protocol):
 
 #: Where frames come from: octets, a file, or a socket.
 Source = Union[bytes, Readable, socket.socket]
+_Scanned = Tuple[List[Tuple[int, Optional[bytes]]], int, int, int, int, int]
 
 
 def framed(record: bytes, framing: Framing = Framing.COUNTED) -> bytes:
@@ -87,27 +88,43 @@ class _Stream:
         self.held, self.before = self.held[count:], self.before + count
 
 
+@library.in_c
+def scan(framing: int, longest: int, held: bytes, at: int, inside: int, left: int) -> _Scanned:
+    """What comes next in a stream, from `at` on, by a scanner of this state.
+
+    The answer has of each frame where it ends, and its octets unless they are more than `longest`; then where the
+    scanner is, what it found last and where that starts, and its state.
+    """
+    scanner, found = library.Scanner(inside, left), library.Found()
+    to_scanner, to_found = ctypes.byref(scanner), ctypes.byref(found)
+    address, size, answer = library.address(held), len(held), library.FRAME
+    frames: List[Tuple[int, Optional[bytes]]] = []
+    while answer > 0 and len(frames) < 64:
+        answer = library.scan(framing, longest, address + at, size - at, to_scanner, to_found)
+        if answer == library.FRAME:
+            frames.append((at + found.used, held[at + found.start:at + found.end]))
+        elif answer == library.TOO_LONG:
+            frames.append((at + found.used, None))
+        at += found.used
+    return frames, at, answer, found.start, scanner.inside, scanner.left
+
+
 def _cut(source: Source, framing: int, longest: int, piece: int) -> Iterator[Tuple[int, Optional[bytes]]]:
     """Of each frame its position, and its octets unless they are more than `longest`."""
     stream, longest, begun = _Stream(source, piece), min(max(longest, 0), 2 ** 62), 0
-    scanner, found = library.Scanner(), library.Found()
-    to_scanner, to_found = ctypes.byref(scanner), ctypes.byref(found)
+    inside = left = 0
     while True:
-        address, size, at, answer = library.address(stream.held), len(stream.held), 0, library.FRAME
+        at, answer = 0, library.FRAME
         while answer > 0:
-            answer = library.scan(framing, longest, address + at, size - at, to_scanner, to_found)
-            if answer == library.FRAME:
-                yield begun, stream.held[at + found.start:at + found.end]
-            elif answer == library.TOO_LONG:
-                yield begun, None
-            at += found.used
-            if answer > 0:
-                begun = stream.before + at
+            found, at, answer, start, inside, left = scan(framing, longest, stream.held, at, inside, left)
+            for end, octets in found:
+                yield begun, octets
+                begun = stream.before + end
         if answer == library.BROKEN:
-            raise StreamError(Kind.BAD_COUNT, 0, stream.before + at + found.start)
+            raise StreamError(Kind.BAD_COUNT, 0, stream.before + at + start)
         stream.drop(at)
         if not stream.more():
-            if stream.held or scanner.inside:
+            if stream.held or inside:
                 raise StreamError(Kind.UNTERMINATED, 0, begun)
             return
 
@@ -247,8 +264,19 @@ def check_all(records: Iterable[bytes]) -> Iterator[Tuple[int, RecordError]]:
         before += len(batch)
 
 
+@library.in_c
+def refused(batch: List[bytes]) -> Optional[List[int]]:
+    """The numbers of those that are not a record; None if that is left to `_refused`."""
+    return None
+
+
 def _refused(batch: List[bytes]) -> Iterator[Tuple[int, RecordError]]:
     """For each that is not a record, its index, and why."""
+    numbers = refused(batch)
+    if numbers is not None:
+        for number in numbers:
+            yield number, refusal(batch[number])
+        return
     try:
         framing, stream, count = Framing.LF, b"\n".join([*batch, b""]), ctypes.c_size_t()
     except TypeError:

@@ -9,7 +9,7 @@ import subprocess
 import tempfile
 from pathlib import Path
 
-from bindings.building import SANITIZED, compiled, for_go, loaded_package
+from bindings.building import SANITIZED, compiled, for_go, ways
 from cases.legacy import changed, zone
 from hostile.records import Maker
 from lib import reference
@@ -108,7 +108,8 @@ def lines(program, results, folder, count, seed=1):
     """Tries so many records; gives how many of the frames are records, and how many are refused."""
     some = Lines(program, folder, count, seed)
     in_c(results, some)
-    in_python(results, some, loaded_package())
+    for way in ways(results, folder):
+        in_python(way.results(results), some, way.loaded())
     in_go(results, some)
     read = some.of["records"].count(b"\n")
     results.check("most frames are records", read > count * 0.9, f"{read} of {count}")

@@ -162,23 +162,23 @@ def described(results, package):
         public = getattr(package, name)
         inside = vars(public).items() if inspect.isclass(public) else ()
         every = [(f"{name}.{one}", what) for one, what in inside if inspect.isfunction(what) and not one.startswith("_")]
-        for of, what in [(name, public)] * (inspect.isclass(public) or inspect.isfunction(public)) + every:
+        for of, what in [(name, public)] * (inspect.isclass(public) or inspect.isroutine(public)) + every:
             results.check(f"Python: {of} has a docstring", what.__doc__ and "NotImplementedError" not in what.__doc__, str(what.__doc__))
 
 
-def loaded(results, package):
+def loaded(results, package, way):
     """The version of the library, and what is said of a library that is not there, or is another one."""
     right = tuple(map(int, run("sh", ["scripts/version.sh"], cwd=ROOT)[1].split(b".")))
     results.check("Python: the version of the library", package.library_version() == right, str(package.library_version()))
     for name, path in [("none", "/no/library.so"), ("no library", "/dev/null"), ("another one", "libc.so.6")]:
         status, _, notes = run(sys.executable, ["-c", "import syslogbox"],
-                               environment={"PYTHONPATH": str(ROOT / "python"), "SYSLOGBOX_LIBRARY": path})
+                               environment={**way.environment(), "SYSLOGBOX_LIBRARY": path})
         told = notes.splitlines(keepends=True)[-1]
         right = told.startswith(b"ImportError: ") and path.encode() in told and told.endswith(ADVICE)
         results.check(f"Python: what is said of {name}", status == 1 and right, told)
 
 
-def arguments(results, folder, package):
+def arguments(results, folder, package, way):
     framings(results, package)
     files(results, package, folder)
     octets(results, package)
@@ -187,4 +187,4 @@ def arguments(results, folder, package):
     too_long(results, package)
     not_waiting(results, package)
     described(results, package)
-    loaded(results, package)
+    loaded(results, package, way)

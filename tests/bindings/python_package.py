@@ -18,6 +18,7 @@ import zipfile
 from queue import Empty, Queue
 from threading import Thread
 
+from bindings.building import headers_of_python
 from lib import reference
 from lib.program import ROOT, run
 
@@ -263,18 +264,19 @@ def packed(results, folder):
     sdists = [file for file in files.values() if file.suffix == ".gz"]
     if len(wheels) != 1 or len(sdists) != 1:
         return
-    library = (ROOT / "build/libsyslogbox.so.0").read_bytes()
-    least = max(int(minor) for minor in re.findall(rb"GLIBC_2\.(\d+)", library))
-    tag = re.fullmatch(r"syslogbox-[\d.]+-py3-none-manylinux_2_(\d+)_x86_64(\.manylinux2014_x86_64)?\.whl", wheels[0].name)
-    results.check("Python: the wheel's platform has the glibc that the library needs", tag and int(tag[1]) >= least, wheels[0].name)
     with zipfile.ZipFile(wheels[0]) as wheel:
         inside = {name: wheel.read(name) for name in wheel.namelist()}
+    least = max(int(minor) for name, octets in inside.items() if ".so" in name for minor in re.findall(rb"GLIBC_2\.(\d+)", octets))
+    tag = re.fullmatch(r"syslogbox-[\d.]+-py3-none-manylinux_2_(\d+)_x86_64(\.manylinux2014_x86_64)?\.whl", wheels[0].name)
+    results.check("Python: the wheel's platform has the glibc that its files need", tag and int(tag[1]) >= least, wheels[0].name)
+    results.check("Python: the wheel has the module in C", ("syslogbox/_calls.abi3.so" in inside) == headers_of_python(), str(list(inside)))
     recorded(results, inside)
     tagged(results, wheels[0], inside)
     with tarfile.open(sdists[0]) as sdist:
         names = {name.split("/", 1)[1] for name in sdist.getnames()}
-    package = {name for name in inside if name.startswith("syslogbox/") and not name.endswith(".so.0")}
-    results.check("Python: the sdist has the package", names == package | {"PKG-INFO", "backend.py", "pyproject.toml"}, str(names ^ package))
+    package = {name for name in inside if name.startswith("syslogbox/") and ".so" not in name}
+    others = {"PKG-INFO", "backend.py", "pyproject.toml", "_calls.c", "syslogbox.h"}
+    results.check("Python: the sdist has the package", names == package | others, str(names ^ package))
     if shutil.which("twine"):
         status, output, notes = run("twine", ["check", "--strict", *files.values()])
         results.check("Python: twine accepts them", status == 0, (output + notes).decode())
@@ -303,7 +305,7 @@ def tagged(results, wheel, inside):
     results.check("Python: WHEEL has the tags of the name", seen == right and "Root-Is-Purelib: false" in about, about)
 
 
-PROGRAM = "import syslogbox; print(syslogbox.view(b'<0>1 - - - - - -').severity)"
+PROGRAM = "import syslogbox; print(syslogbox.view(b'<0>1 - - - - - -').severity, syslogbox.IN_C)"
 
 
 def installed(results, folder, wheel, sdist):
@@ -318,8 +320,11 @@ def installed(results, folder, wheel, sdist):
         words = ["-m", "pip", "install", "--no-index", "--no-cache-dir", "--quiet", "--force-reinstall", file]
         status, _, notes = run(python, words, timeout=300, environment={"PIP_DISABLE_PIP_VERSION_CHECK": "1", "PYTHONPATH": ""})
         results.check(f"Python: pip install {file.name}", status == 0, notes[-300:])
-        seen = run(python, ["-c", PROGRAM], environment={"PYTHONPATH": "", "SYSLOGBOX_LIBRARY": library}, cwd=place)
-        results.same(f"Python: what was installed of {file.name} runs", seen, (0, b"0\n", b""))
+        for by_ctypes in ("", "1"):
+            environment = {"PYTHONPATH": "", "SYSLOGBOX_LIBRARY": library, "SYSLOGBOX_CTYPES": by_ctypes}
+            right = f"0 {headers_of_python() and not by_ctypes}\n".encode()
+            results.same(f"Python: what was installed of {file.name} runs", run(python, ["-c", PROGRAM], environment=environment, cwd=place),
+                         (0, right, b""))
     _, where, _ = run(python, ["-c", "import syslogbox; print(syslogbox.__file__)"], cwd=place,
                       environment={"PYTHONPATH": "", "SYSLOGBOX_LIBRARY": str(ROOT / "build/libsyslogbox.so.0")})
     results.check("Python: it is the one that was installed", where.startswith(bytes(place)), str(where))
@@ -330,12 +335,15 @@ def installed(results, folder, wheel, sdist):
         results.check("Python: mypy reads the types of what was installed", seen[0] == 0, seen[1].decode())
 
 
-def package(results, folder, module, frames, answers):
+def package(results, module, frames, answers):
     examples(results, module)
     tour(results, module)
-    typed(results, folder)
     records(results, module, frames, answers)
     logged(results, module)
     instants(results, module)
     pickled(results, module)
+
+
+def distribution(results, folder):
+    typed(results, folder)
     packed(results, folder)

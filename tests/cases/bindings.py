@@ -13,8 +13,8 @@ import time
 from datetime import datetime, timezone
 from random import Random
 
-from bindings import python_arguments, python_package
-from bindings.building import SANITIZED, SHARED, compiled, for_go, loaded_package
+from bindings import python_arguments, python_module, python_package
+from bindings.building import SANITIZED, compiled, for_go, headers_of_python, ways
 from bindings.go_module import go_module
 from bindings.lines import lines
 from cases.colliding_ids import FRONT, STACK, colliding, data, fitting, ids, most
@@ -320,8 +320,9 @@ def answer_of(module, record):
         return int(refused.kind), int(refused.field), refused.offset
 
 
-def in_python(program, results, folder, frames, answers):
-    module = loaded_package()
+def in_python(program, results, folder, frames, answers, way):
+    module = way.loaded()
+    results.check("Python: it makes its calls so", module.IN_C == (way.name != "ctypes"), str(module.IN_C))
     wrong = next((f"{frame!r}" for frame, right in zip(frames, answers) if answer_of(module, frame) != right), "")
     results.check("Python: records", not wrong, wrong)
     right = sum(isinstance(answer, bytes) for answer in answers)
@@ -360,8 +361,8 @@ def in_python(program, results, folder, frames, answers):
             results.check(f"Python: what is selected of {len(left)} octets", module.select(left, start=start, severity=3) == selected)
             root = program.run(["root"], output)[1].decode()
             results.check(f"Python: the root of {len(output)} octets", f"{module.root(output)}\n" == root, root)
-    python_package.package(results, folder, module, frames, answers)
-    python_arguments.arguments(results, folder, module)
+    python_package.package(results, module, frames, answers)
+    python_arguments.arguments(results, folder, module, way)
     python_streams(results, module, some)
     python_checks(results, module, frames, answers)
     all_checked(results, module, frames, answers)
@@ -517,9 +518,11 @@ def installed(results, folder):
     to = folder.path / "site"
     status, _, notes = run(sys.executable, ["-m", "pip", "install", "--no-index", "--quiet", "--target", to, ROOT / "python"])
     results.check("Python: pip install ./python", status == 0, notes[-300:])
-    program = "import syslogbox; print(syslogbox.is_record(b'<0>1 - - - - - -'))"
-    seen = run(sys.executable, ["-c", program], environment={"PYTHONPATH": str(to), "SYSLOGBOX_LIBRARY": ""})
-    results.same("Python: what was installed runs", seen, (0, b"True\n", b""))
+    program = "import syslogbox; print(syslogbox.is_record(b'<0>1 - - - - - -'), syslogbox.IN_C)"
+    for by_ctypes in ("", "1"):
+        environment = {"PYTHONPATH": str(to), "SYSLOGBOX_LIBRARY": "", "SYSLOGBOX_CTYPES": by_ctypes}
+        right = f"True {headers_of_python() and not by_ctypes}\n".encode()
+        results.same("Python: what was installed runs", run(sys.executable, ["-c", program], environment=environment), (0, right, b""))
     status, _, notes = run(sys.executable, ["-c", program], environment={"PYTHONPATH": str(to), "SYSLOGBOX_LIBRARY": "/dev/null"})
     results.check("Python: without a library, it says how to name one", status == 1 and b"\nImportError: /dev/null" in notes, notes)
 
@@ -538,7 +541,7 @@ def in_go(results, folder, frames, answers):
     go_module(results, folder, environment)
 
 
-def examples(program, results, folder, frames):
+def examples(program, results, folder, frames, every):
     some = [frame for frame in frames[:3_000] if frame and b"\n" not in frame]
     path, built, said = compiled(folder, "drop_refused", [ROOT / "examples/drop_refused.c"], *SANITIZED)
     results.check("the example in C is compiled", built, said)
@@ -551,22 +554,22 @@ def examples(program, results, folder, frames):
         results.check(f"the example in C drops refused frames, {framing}",
                       (status, output, notes.count(b"\n")) == (1, right, refused), f"{status} {len(output)} {notes[:100]!r}")
     archive = program.run(["archive", "--framing", "counted"], reference.counted(some))[1]
-    environment = {"PYTHONPATH": str(ROOT / "python"), "SYSLOGBOX_LIBRARY": SHARED}
-    script = [ROOT / "examples/archive_to_dicts.py", folder.file("archive", archive)]
-    status, output, notes = run(sys.executable, script, environment=environment)
-    dicts = ast.literal_eval(output.decode()) if status == 0 else []
-    read = [reference.read(entry) for entry in reference.archive_read(archive)[0]]
-    same = [(one["priority"], one["time"]) for one in dicts] == [(one.priority, timestamp_of(one)) for one in read]
-    results.check("the example in Python reads an archive", status == 0 and len(dicts) > 100 and same, notes[-300:])
-    status, _, notes = run(sys.executable, [script[0], folder.file("archive", b"x")], environment=environment)
-    results.check("the example in Python tells a fault", status == 1 and b"octet 0" in notes, notes)
-    wrong_arguments(results, folder, path)
+    for way in every:
+        environment, told = way.environment(), way.results(results)
+        script = [ROOT / "examples/archive_to_dicts.py", folder.file("archive", archive)]
+        status, output, notes = run(sys.executable, script, environment=environment)
+        dicts = ast.literal_eval(output.decode()) if status == 0 else []
+        read = [reference.read(entry) for entry in reference.archive_read(archive)[0]]
+        same = [(one["priority"], one["time"]) for one in dicts] == [(one.priority, timestamp_of(one)) for one in read]
+        told.check("the example in Python reads an archive", status == 0 and len(dicts) > 100 and same, notes[-300:])
+        status, _, notes = run(sys.executable, [script[0], folder.file("archive", b"x")], environment=environment)
+        told.check("the example in Python tells a fault", status == 1 and b"octet 0" in notes, notes)
+    wrong_arguments(results, folder, path, every[-1].environment())
 
 
-def wrong_arguments(results, folder, compiled):
+def wrong_arguments(results, folder, compiled, environment):
     """Each example says how it is called, or which file it cannot read, in one line, and its status is 2."""
     root, none = "0" * 64, folder.path / "no-such-file"
-    environment = {"PYTHONPATH": str(ROOT / "python"), "SYSLOGBOX_LIBRARY": SHARED}
     usage = {"archive_to_dicts.py": "usage: archive_to_dicts.py ARCHIVE\n", "confirm.py": "usage: confirm.py COUNT ROOT RECORDS < PROOFS\n"}
     uncounted, cut_off = folder.file("uncounted", b"x"), folder.file("cut-off", b"9 <0>1")
     rows = [("archive_to_dicts.py", words, None) for words in ([], ["a", "b"])]
@@ -594,8 +597,12 @@ def bindings(program, results):
     interface(results)
     header(results, program.folder)
     in_c(program, results, program.folder, frames, answers)
-    in_python(program, results, program.folder, frames, answers)
+    every = list(ways(results, program.folder))
+    for way in every:
+        in_python(program, way.results(results), program.folder, frames, answers, way)
+    python_module.module(results, program.folder, every)
+    python_package.distribution(results, program.folder)
     installed(results, program.folder)
-    examples(program, results, program.folder, frames)
+    examples(program, results, program.folder, frames, every)
     in_go(results, program.folder, frames, answers)
     lines(program, results, program.folder, LINES)

@@ -12,7 +12,7 @@ from installing import in_c, units, with_units
 from results import ROOT, clone, lacking, name_sources, run
 
 LINK = re.compile(r"\]\(([^)#:\s]+)(?:#[^)\s]*)?\)")
-OF_THE_TARBALL = ["README.md", "CHANGELOG.md", "docs/*.md", "docs/pictures/*", "contrib/*.conf", "examples/*", "include/*.h", "python/*.py",
+OF_THE_TARBALL = ["README.md", "CHANGELOG.md", "docs/*.md", "docs/pictures/*", "contrib/*.conf", "examples/*", "include/*.h", "python/*.py", "python/*.c",
                   "python/*.toml", "python/syslogbox/*", "go/*", "cluster/*.*", "cluster/slurm/*"]
 OF_THE_PACKAGE = {"README.md": "", "docs/*.md": "", "docs/pictures/*": "pictures", "contrib/*.conf": "examples",
                   "cluster/*.*": "examples/cluster", "cluster/slurm/*": "examples/cluster/slurm"}
@@ -56,8 +56,9 @@ def packages(room, results):
     results.check("twice the same packages", list(files) == list(other), f"{list(files)} {list(other)}")
     for name in files.keys() & other.keys():
         results.check(f"twice the same octets: {name}", files[name].read_bytes() == other[name].read_bytes())
-    entries = [line for line in (folder / "CHANGELOG.md").read_text().splitlines() if line.startswith("## ")]
-    results.check("the first entry of CHANGELOG.md is the version", entries[0].startswith(f"## {version} ("), entries[0])
+    lines = (folder / "CHANGELOG.md").read_text().splitlines()
+    entries = [line for line in lines if line.startswith("## ") and line != "## Unreleased"]
+    results.check("the first release of CHANGELOG.md is the version", entries[0].startswith(f"## {version} ("), entries[0])
     for name, file in files.items():
         if name.endswith("-linux-x86_64.tar.gz"):
             tarball(file, version, room, results)
