@@ -8,6 +8,7 @@ ghost use Rattle.journal.specs.declared.journal.TheConstants.{COMMIT_SYNCS};
 ghost use Rattle.archive_text.specs.Entries.{Entry};
 ghost use Rattle.record_store.specs.Causes.{IsCause, TellsNumber, commit_causes, opening_causes};
 ghost use Rattle.record_store.specs.Crashes.{Keeps};
+ghost use Rattle.record_store.specs.declared.opening.TheConstants.{OPEN_SYNCS};
 ghost use Rattle.record_store.specs.Stores.{IsReady, Sets, all_committed, begun, number_of};
 ghost use Rattle.durable_store.specs.Asides.{SetsTailsAside, asides_of};
 ghost use Rattle.durable_store.specs.Causes.{IsDamage, IsOpeningCause};
@@ -134,6 +135,7 @@ impl DurableStore {
 
         ensures same { entries_of self.new ≡ entries_of self.old }
         ensures breaks { IsErr result ↔ IsBroken self.new }
+        ensures syncs { AtMostSyncs OPEN_SYNCS (D.syncs disk.old) (D.syncs disk.new) }
         ensures told { D.tells disk.new → D.tells disk.old }
         ensures cause { IfErr result (IsCause
             (opening_causes (D.tells disk.new) (D.has_failed disk.new) (D.state disk.old))) }

@@ -20,5 +20,5 @@ mod reading;
 pub use fault::JournalFault;
 pub use journal::{BODY_MAX, COMMIT_SYNCS, CREATE_SYNCS, Journal, LENGTH_MAX};
 pub use law::{after_a_crash, one_reading};
-pub use opening::{open, settle};
+pub use opening::{OPEN_SYNCS, SETTLE_SYNCS, open, settle};
 pub use reading::{OPENED_MAX, batch_len, read_octets};

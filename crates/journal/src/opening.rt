@@ -1,6 +1,7 @@
 //! A journal is opened.
 ghost use Rattle.std.specs.Prelude.{◌≡◌, ◌≤◌, ◌<◌, ◌^◌, length, List, ℕ, IfOk, IsErrOf, IsNone, OnOk};
 ghost use Rattle.std.specs.Prelude.{◌⊎◌, Option, Some};
+ghost use Rattle.disk.specs.Calls.{AtMostSyncs};
 ghost use Rattle.disk.specs.Files.{File};
 ghost use Rattle.disk.specs.States.{NameMayLeave};
 ghost use Rattle.journal.specs.Batches.{batches_text, HasBatches};
@@ -13,10 +14,22 @@ use crate::{Journal, JournalFault};
 use disk::{Disk, DiskFault, FileName};
 use std::alloc::Global;
 
+/// How many syncs `settle` makes at most: of the file and of the folder.
+pub const SETTLE_SYNCS: u64 = 2;
+
+/// How many syncs `open` makes at most: before the cut and behind it, and of a closed octet that is renewed.
+pub const OPEN_SYNCS: u64 = CUT_SYNCS + RENEW_SYNCS;
+
 // what opens a batch, and what stands in its place before
 const OPEN: u8 = 1;
 
 const CLOSED: u8 = 254;
+
+// How many syncs a cut makes at most: of the closed octet before it, and of the file once it is cut.
+const CUT_SYNCS: u64 = 2;
+
+// How many syncs make a closed octet that of today, at most: one of the file.
+const RENEW_SYNCS: u64 = 1;
 
 // Puts a closed octet behind the batches, if there is none.
 fn shut<D: Disk>(disk: &mut D, name: &FileName, file: &[u8], end: usize) -> Result<(), DiskFault>
@@ -28,6 +41,7 @@ fn shut<D: Disk>(disk: &mut D, name: &FileName, file: &[u8], end: usize) -> Resu
         → IsOnDisk (D.state disk.old) name.now file.now → EndsAt file.now bodies end
         → LeavesThese (D.state disk.new) name.now bodies }
     ensures others { D.tells disk.new → KeepsOthers (D.state disk.old) (D.state disk.new) name.now }
+    ensures syncs { AtMostSyncs 0 (D.syncs disk.old) (D.syncs disk.new) }
     ensures told { D.tells disk.new → D.tells disk.old }
     ensures failed { IsErrOf result DiskFault.Failed → D.has_failed disk.new }
     ensures full { IsErrOf result DiskFault.Full → D.has_failed disk.new }
@@ -56,6 +70,7 @@ fn cut_behind<D: Disk>(disk: &mut D, name: &FileName, end: u64) -> Result<(), Di
         → IsClosing (D.state disk.old) name.now bodies → end ≡ length (batches_text bodies)
         → LeavesThese (D.state disk.new) name.now bodies }
     ensures others { D.tells disk.new → KeepsOthers (D.state disk.old) (D.state disk.new) name.now }
+    ensures syncs { AtMostSyncs CUT_SYNCS (D.syncs disk.old) (D.syncs disk.new) }
     ensures told { D.tells disk.new → D.tells disk.old }
     ensures failed { IsErrOf result DiskFault.Failed → D.has_failed disk.new }
     ensures full { IsErrOf result DiskFault.Full → D.has_failed disk.new }
@@ -80,6 +95,7 @@ fn renew<D: Disk>(disk: &mut D, name: &FileName, file: &[u8], end: usize) -> Res
         → IsAtRest (D.state disk.old) name.now bodies → end ≡ length (batches_text bodies)
         → LeavesThese (D.state disk.new) name.now bodies }
     ensures others { D.tells disk.new → KeepsOthers (D.state disk.old) (D.state disk.new) name.now }
+    ensures syncs { AtMostSyncs RENEW_SYNCS (D.syncs disk.old) (D.syncs disk.new) }
     ensures told { D.tells disk.new → D.tells disk.old }
     ensures failed { IsErrOf result DiskFault.Failed → D.has_failed disk.new }
     ensures full { IsErrOf result DiskFault.Full → D.has_failed disk.new }
@@ -114,6 +130,7 @@ pub fn settle<D: Disk>(disk: &mut D, name: &FileName) -> Result<(), DiskFault>
         → SettlesOthers (D.state disk.old) (D.state disk.new) name.now) }
     ensures shows { D.tells disk.new → ShowsTheSame (D.state disk.old) (D.state disk.new) }
 
+    ensures syncs { AtMostSyncs SETTLE_SYNCS (D.syncs disk.old) (D.syncs disk.new) }
     ensures told { D.tells disk.new → D.tells disk.old }
     ensures failed { IsErrOf result DiskFault.Failed → D.has_failed disk.new }
     ensures full { IsErrOf result DiskFault.Full → D.has_failed disk.new }
@@ -147,6 +164,7 @@ pub fn open<D: Disk>(
     ensures others { D.tells disk.new → KeepsOthers (D.state disk.old) (D.state disk.new) name }
 
     ensures name { IfOk result (λ r. name_of r.0 ≡ name) }
+    ensures syncs { AtMostSyncs OPEN_SYNCS (D.syncs disk.old) (D.syncs disk.new) }
     ensures told { D.tells disk.new → D.tells disk.old }
     ensures failed { IsErrOf result (JournalFault.Disk DiskFault.Failed) → D.has_failed disk.new }
     ensures full { IsErrOf result (JournalFault.Disk DiskFault.Full) → D.has_failed disk.new }

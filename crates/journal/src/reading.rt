@@ -1,6 +1,6 @@
 //! The batches of a journal's file.
 ghost use Rattle.std.specs.Prelude.{◌≡◌, ◌≤◌, ◌^◌, ◌++◌, length, List, ℕ, IfNone, IfOk, IfSome, IsErrOf, IsNone, Some};
-ghost use Rattle.disk.specs.Calls.{IsUnchanged};
+ghost use Rattle.disk.specs.Calls.{AtMostSyncs, IsUnchanged};
 ghost use Rattle.disk.specs.Memory.{shown_now};
 ghost use Rattle.journal.specs.Batches.{BeginsWithBatch, IsClosed};
 ghost use Rattle.journal.specs.Journals.{EndsAt, IsSound};
@@ -60,6 +60,7 @@ pub fn read_octets<D: Disk>(
         → (file : List ℕ) → shown_now ((D.state disk.old).entries name.now) ≡ Some file
         → v.items ≡ file) }
     ensures same { D.tells disk.new → IsUnchanged (D.state disk.old) (D.state disk.new) }
+    ensures syncs { AtMostSyncs 0 (D.syncs disk.old) (D.syncs disk.new) }
     ensures told { D.tells disk.new → D.tells disk.old }
     ensures failed { IsErrOf result (JournalFault.Disk DiskFault.Failed) → D.has_failed disk.new }
     ensures full { IsErrOf result (JournalFault.Disk DiskFault.Full) → D.has_failed disk.new }

@@ -36,7 +36,7 @@ pub use journal_damage::JournalDamage;
 pub use keeping::KeepFault;
 pub use law::{after_a_crash, after_a_restart};
 pub use listing::{journals, read_journal};
-pub use opening::open;
+pub use opening::{OPEN_SYNCS, open};
 pub use putting::put;
 pub use renewing::renew;
 pub use sealing::{has_entry, hides_batches, seals};

@@ -1,5 +1,6 @@
 //! A store is opened.
 ghost use Rattle.std.specs.Prelude.{◌≡◌, ◌↔◌, [], List, ℕ, Some, IfErr, IfOk, IsErr, OnOk};
+ghost use Rattle.disk.specs.Calls.{AtMostSyncs};
 ghost use Rattle.disk.specs.Memory.{shown_now};
 ghost use Rattle.journal.specs.Journals.{IsSound, KeepsOrSettlesOthers, OpensOn, SettlesOthers, name_of};
 ghost use Rattle.archive_text.specs.Entries.{Entry, Has};
@@ -17,8 +18,12 @@ use crate::RecordStore;
 use crate::fault::StoreFault;
 use crate::names::{name_of_journal, newest};
 use disk::{Disk, FileName};
-use journal::{Journal, JournalFault};
+use journal::{Journal, JournalFault, SETTLE_SYNCS};
 use std::alloc::Global;
+
+/// How many syncs the opening of a store makes at most: those that settle and open its newest journal. A
+/// first journal takes fewer.
+pub const OPEN_SYNCS: u64 = SETTLE_SYNCS + journal::OPEN_SYNCS;
 
 // Opens the journal that a read shows under a name, once what is shown is on the disk.
 pub(crate) fn open_shown<D: Disk>(
@@ -43,6 +48,7 @@ pub(crate) fn open_shown<D: Disk>(
         → ShowsTheBatches (D.state disk.old) (D.state disk.new) name }
     ensures others { D.tells disk.new → KeepsOrSettlesOthers (D.state disk.old) (D.state disk.new) name }
 
+    ensures syncs { AtMostSyncs OPEN_SYNCS (D.syncs disk.old) (D.syncs disk.new) }
     ensures told { D.tells disk.new → D.tells disk.old }
     ensures cause { IfErr result (IsJournalCause
         (shown_causes (D.tells disk.new) (D.has_failed disk.new) (D.state disk.old) name)) }
@@ -87,6 +93,7 @@ fn open_journal<D: Disk>(
     ensures files { D.tells disk.new → KeepsOrSettlesFiles (D.state disk.old) (D.state disk.new) }
 
     ensures whole { IfOk result (λ r. ¬ (IsBroken r.0)) }
+    ensures syncs { AtMostSyncs OPEN_SYNCS (D.syncs disk.old) (D.syncs disk.new) }
     ensures told { D.tells disk.new → D.tells disk.old }
     ensures cause { IfErr result (IsCause
         (newest_causes (D.tells disk.new) (D.has_failed disk.new) (D.state disk.old) number)) }
@@ -141,6 +148,7 @@ pub fn open<D: Disk>(alloc: Global, disk: &mut D) -> Result<(RecordStore, Vec<u8
     ensures files { D.tells disk.new → KeepsOrSettlesFiles (D.state disk.old) (D.state disk.new) }
 
     ensures whole { IfOk result (λ r. ¬ (IsBroken r.0)) }
+    ensures syncs { AtMostSyncs OPEN_SYNCS (D.syncs disk.old) (D.syncs disk.new) }
     ensures told { D.tells disk.new → D.tells disk.old }
     ensures cause { IfErr result (IsCause
         (opening_causes (D.tells disk.new) (D.has_failed disk.new) (D.state disk.old))) }
@@ -172,6 +180,7 @@ impl RecordStore {
             → Stands self.old (D.state disk.old) sets → Stands self.new (D.state disk.new) sets }
 
         ensures breaks { IsErr result ↔ IsBroken self.new }
+        ensures syncs { AtMostSyncs OPEN_SYNCS (D.syncs disk.old) (D.syncs disk.new) }
         ensures told { D.tells disk.new → D.tells disk.old }
         ensures cause { IfErr result (IsCause
             (opening_causes (D.tells disk.new) (D.has_failed disk.new) (D.state disk.old))) }

@@ -3,7 +3,7 @@ ghost use Rattle.std.specs.Prelude.{◌≡◌, ◌≢◌, ◌↔◌, ◌++◌, �
 ghost use Rattle.disk.specs.Calls.{AtMostSyncs};
 ghost use Rattle.disk.specs.States.{State};
 ghost use Rattle.journal.specs.Journals.{IsSound, Stands as JournalStands};
-ghost use Rattle.journal.specs.declared.journal.TheConstants.{COMMIT_SYNCS};
+ghost use Rattle.journal.specs.declared.journal.TheConstants.{COMMIT_SYNCS, CREATE_SYNCS};
 ghost use Rattle.archive_text.specs.Entries.{Entry, IsEntry};
 ghost use Rattle.record_store.specs.Asides.{KeepsOrSettlesFiles};
 ghost use Rattle.record_store.specs.Causes.{IsCause, TellsNumber, commit_causes, first_causes};
@@ -55,6 +55,7 @@ impl RecordStore {
         ensures files { D.tells disk.new → KeepsOrSettlesFiles (D.state disk.old) (D.state disk.new) }
 
         ensures whole { IfOk result (λ store. ¬ (IsBroken store)) }
+        ensures syncs { AtMostSyncs CREATE_SYNCS (D.syncs disk.old) (D.syncs disk.new) }
         ensures told { D.tells disk.new → D.tells disk.old }
         ensures cause { IfErr result (IsCause
             (first_causes (D.tells disk.new) (D.has_failed disk.new) (D.state disk.old))) }

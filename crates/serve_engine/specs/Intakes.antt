@@ -1,5 +1,5 @@
 -- Where a collector and what keeps its records stand.
-use Rattle.std.specs.Prelude.{◌≡◌, ◌⊎◌, List, []}
+use Rattle.std.specs.Prelude.{◌≡◌, ◌⊎◌, ℕ, List, [], length}
 use Rattle.archive_text.specs.Entries.{Entry}
 use Rattle.syslog_collect.specs.Collectors.{Stands, behind, store_of}
 use Rattle.syslog_collect.specs.History.{AcceptedEvent}
@@ -23,3 +23,7 @@ AddsTaken old new = (more : Taken) × ((new ≡ taken_both old more) ⊎ (new �
 pub record IsCommitted {S K : Type 0} (entries : S → List Entry) (intake : Intake S K) (k : Kept) : Type 0 where
   pub fresh : entries (store_of intake.collector) ≡ []
   pub committed : k.committed ≡ k.held
+
+-- how many records wait in its set
+abbrev pub waiting_in : {S K : Type 0} → (S → List Entry) → Intake S K → ℕ
+waiting_in entries intake = length (entries (store_of intake.collector))

@@ -8,5 +8,6 @@ pub mod Counts
 pub mod Paces
 pub mod Notes
 pub mod Intakes
+pub mod Syncs
 pub mod Serving
 pub mod Servers

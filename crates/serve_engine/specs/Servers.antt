@@ -1,5 +1,5 @@
 -- What a server does in a turn, and in a run.
-use Rattle.std.specs.Prelude.{◌≡◌, ◌⊎◌, ◌-◌, ◌<◌, ◌^◌, Bool, true, false, List, [], ◌∷◌, ◌++◌, length}
+use Rattle.std.specs.Prelude.{◌≡◌, ◌⊎◌, ℕ, ◌-◌, ◌<◌, ◌^◌, Bool, true, false, List, [], ◌∷◌, ◌++◌, length}
 use Rattle.std.specs.Prelude.{Option, IfNone, is_none, if◌then◌else◌}
 use Rattle.archive_text.specs.Entries.{Entry}
 use Rattle.octet_devices.specs.Device.{OutputState}
@@ -7,12 +7,13 @@ use Rattle.syslog_collect.specs.Collectors.{NoneWaits, reading_of, store_of}
 use Rattle.syslog_collect.specs.History.{AcceptedEvent}
 use Rattle.socket_source.specs.Steps.{Given, SourceState}
 use Rattle.serve_engine.specs.Events.{Manner, manner_of}
-use Rattle.serve_engine.specs.Intakes.{StandsBy}
+use Rattle.serve_engine.specs.Intakes.{StandsBy, waiting_in}
 use Rattle.serve_engine.specs.Keepings.{Kept, StaysCommitted}
 use Rattle.serve_engine.specs.Notes.{Told, told_in}
 use Rattle.serve_engine.specs.Refusals.{outputs_in, KeepsSilent, kept_in}
 use Rattle.serve_engine.specs.Serving.{Gave, HoldsReceived, IfCommitted, IfSettled, IsCause, Served, UnlessMemory}
 use Rattle.serve_engine.specs.Serving.{UnlessStopped, event_in, is_due, is_over, with_peer_in}
+use Rattle.serve_engine.specs.Syncs.{MakesAtMost, turn_syncs}
 use Rattle.serve_engine.specs.declared.counts.ServeCounts.{ServeCounts}
 use Rattle.serve_engine.specs.declared.intake.Intake.{Intake}
 use Rattle.serve_engine.specs.declared.serve_end.ServeEnd.{ServeEnd}
@@ -201,6 +202,33 @@ LeadsFrom {S = S} {K = K} entries stands a b = (ps : List (Place S K)) × LeadsO
 abbrev pub LeadsTo : {S K : Type 0} → (S → List Entry) → (K → Kept → Type 0) → ServeEnd → Place S K → Place S K → Type 0
 LeadsTo {S = S} {K = K} entries stands end a b = (p : Place S K) × LeadsFrom entries stands a p
     × ((b ≡ p) ⊎ ServesTurn entries stands (End end) p b)
+
+-- ---- runs, with their syncs
+
+-- a turn made at most the syncs of one at whose start so many records waited
+abbrev pub SyncsFew : {S K : Type 0} → (S → List Entry) → (K → ℕ) → ℕ → Place S K → Place S K → Type 0
+SyncsFew entries syncs most a b =
+    MakesAtMost (turn_syncs most (waiting_in entries a.intake)) (syncs a.intake.keeper) (syncs b.intake.keeper)
+
+-- turns that go on lead there through these places, the last one first, and each makes few syncs
+abbrev pub SyncsOn : {S K : Type 0} → (S → List Entry) → (K → Kept → Type 0) → (K → ℕ) → ℕ → Place S K
+    → List (Place S K) → Place S K → Type 0
+SyncsOn entries stands syncs most a [] b = b ≡ a
+SyncsOn entries stands syncs most a (p ∷ ps) b = SyncsOn entries stands syncs most a ps p
+    × ServesTurn entries stands On p b × SyncsFew entries syncs most p b
+
+-- they lead there through some
+abbrev pub SyncsFrom : {S K : Type 0} → (S → List Entry) → (K → Kept → Type 0) → (K → ℕ) → ℕ → Place S K → Place S K
+    → Type 0
+SyncsFrom {S = S} {K = K} entries stands syncs most a b =
+    (ps : List (Place S K)) × SyncsOn entries stands syncs most a ps b
+
+-- a run that ends so leads there: turns that go on, and one that ends it, or none; and each makes few syncs
+abbrev pub SyncsTo : {S K : Type 0} → (S → List Entry) → (K → Kept → Type 0) → (K → ℕ) → ℕ → ServeEnd → Place S K
+    → Place S K → Type 0
+SyncsTo {S = S} {K = K} entries stands syncs most end a b = (p : Place S K)
+    × SyncsFrom entries stands syncs most a p
+    × ((b ≡ p) ⊎ (ServesTurn entries stands (End end) p b × SyncsFew entries syncs most p b))
 
 -- a run leads there; and wherever its intake stood, it is done
 pub record ServesRun {S K : Type 0} (entries : S → List Entry) (stands : K → Kept → Type 0) (end : ServeEnd)

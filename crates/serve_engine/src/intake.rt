@@ -8,9 +8,10 @@ ghost use Rattle.syslog_collect.specs.History.{AcceptedEvent, Ended, Opened, Pie
 ghost use Rattle.syslog_collect.specs.Runs.{accepted_event};
 ghost use Rattle.serve_engine.specs.Counts.{no_taken};
 ghost use Rattle.serve_engine.specs.Events.{ending_of, manner_of, opening_of};
-ghost use Rattle.serve_engine.specs.Intakes.{AddsTaken, IsCommitted, StandsBy};
+ghost use Rattle.serve_engine.specs.Intakes.{AddsTaken, IsCommitted, StandsBy, waiting_in};
 ghost use Rattle.serve_engine.specs.Keepings.{Kept};
 ghost use Rattle.serve_engine.specs.Serving.{StandsOn};
+ghost use Rattle.serve_engine.specs.Syncs.{MakesAtMost, commit_syncs, take_syncs};
 
 use crate::keeping::{KeepFault, Keeping, Taken};
 use archive_text::Store;
@@ -80,6 +81,7 @@ impl<S: Store + Drop, K: Keeping<S> + Drop> Intake<S, K> {
             (Opened conn framing)) }
         ensures settled { NoneWaits self.old.collector → NoneWaits self.new.collector }
         ensures manner { manner_of self.new.collector ≡ manner_of self.old.collector }
+        ensures keeper { self.new.keeper ≡ self.old.keeper }
     {
         let answer = self.collector.open_conn(alloc, conn, framing);
         opening_of(answer)
@@ -98,6 +100,7 @@ impl<S: Store + Drop, K: Keeping<S> + Drop> Intake<S, K> {
             → NoneWaits self.old.collector → NoneWaits self.new.collector }
         ensures memory { ¬ (result ≡ Memory) }
         ensures manner { manner_of self.new.collector ≡ manner_of self.old.collector }
+        ensures keeper { self.new.keeper ≡ self.old.keeper }
     {
         let answer = self.collector.end_conn(conn);
         ending_of(answer)
@@ -120,6 +123,7 @@ impl<S: Store + Drop, K: Keeping<S> + Drop> Intake<S, K> {
             → StandsBy S.entries K.stands self.old k first before
             → NoneWaits self.old.collector → IfNotMemory result (NoneWaits self.new.collector) }
         ensures manner { manner_of self.new.collector ≡ manner_of self.old.collector }
+        ensures keeper { self.new.keeper ≡ self.old.keeper }
     {
         receive(alloc, &mut self.collector, event, &mut self.outcomes)
     }
@@ -151,6 +155,7 @@ impl<S: Store + Drop, K: Keeping<S> + Drop> Intake<S, K> {
             (waits_of self.old.collector conn) (waits_of self.new.collector conn)
             self.new.outcomes.items observer.old observer.new }
         ensures manner { manner_of self.new.collector ≡ manner_of self.old.collector }
+        ensures keeper { self.new.keeper ≡ self.old.keeper }
     {
         receive_piece(
             alloc,
@@ -176,6 +181,8 @@ impl<S: Store + Drop, K: Keeping<S> + Drop> Intake<S, K> {
         ensures settled { NoneWaits self.old.collector → NoneWaits self.new.collector }
         ensures manner { manner_of self.new.collector ≡ manner_of self.old.collector }
         ensures handed { self.new.handed ≡ self.old.handed }
+        ensures syncs { MakesAtMost (take_syncs K.most_syncs (waiting_in S.entries self.old))
+            (K.syncs self.old.keeper) (K.syncs self.new.keeper) }
     {
         let fresh = self.collector.store_mut();
         self.keeper.take(alloc, fresh)
@@ -188,6 +195,8 @@ impl<S: Store + Drop, K: Keeping<S> + Drop> Intake<S, K> {
         ensures stands { StandsOn S.entries K.stands self.old self.new (λ _. ⊤) }
         ensures collector { self.new.collector ≡ self.old.collector }
         ensures handed { self.new.handed ≡ self.old.handed }
+        ensures syncs { MakesAtMost K.most_syncs
+            (K.syncs self.old.keeper) (K.syncs self.new.keeper) }
     {
         self.keeper.commit(alloc)
     }
@@ -202,6 +211,8 @@ impl<S: Store + Drop, K: Keeping<S> + Drop> Intake<S, K> {
         ensures taken { IfOk result (λ taken. AddsTaken self.old.handed taken) }
         ensures handed { OnOk result (self.new.handed ≡ no_taken) }
         ensures waits { OnErr result (AddsTaken self.old.handed self.new.handed) }
+        ensures syncs { MakesAtMost (commit_syncs K.most_syncs (waiting_in S.entries self.old))
+            (K.syncs self.old.keeper) (K.syncs self.new.keeper) }
     {
         let taken = self.hand_over(alloc)?;
         let all = self.handed.and(taken);
@@ -217,6 +228,8 @@ impl<S: Store + Drop, K: Keeping<S> + Drop> Intake<S, K> {
             → StandsBy S.entries K.stands self.old k first before
             → StandsBy S.entries K.stands self.new k first before }
         ensures collector { self.new.collector ≡ self.old.collector }
+        ensures syncs { MakesAtMost K.most_syncs
+            (K.syncs self.old.keeper) (K.syncs self.new.keeper) }
     {
         self.keeper.reopen(alloc)
     }
@@ -227,6 +240,8 @@ impl<S: Store + Drop, K: Keeping<S> + Drop> Intake<S, K> {
             → StandsBy S.entries K.stands self.old k first before
             → StandsBy S.entries K.stands self.new k first before }
         ensures collector { self.new.collector ≡ self.old.collector }
+        ensures syncs { MakesAtMost K.most_syncs
+            (K.syncs self.old.keeper) (K.syncs self.new.keeper) }
     {
         self.keeper.checkpoint(alloc)
     }

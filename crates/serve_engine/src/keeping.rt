@@ -1,7 +1,8 @@
 //! What keeps records through crashes, as a server sees it.
-ghost use Rattle.std.specs.Prelude.{◌≡◌, [], Bool, OnErr, OnOk, false};
+ghost use Rattle.std.specs.Prelude.{◌≡◌, [], Bool, OnErr, OnOk, false, length, ℕ};
 ghost use Rattle.serve_engine.specs.Counts.{no_taken, taken_both};
 ghost use Rattle.serve_engine.specs.Keepings.{HandsOver, Kept, all_committed};
+ghost use Rattle.serve_engine.specs.Syncs.{MakesAtMost, take_syncs};
 
 use archive_text::Store;
 use std::alloc::Global;
@@ -58,6 +59,12 @@ pub trait Keeping<S: Store> {
     // memory is short for what comes into a set
     ghost short: { S → Bool };
 
+    /// How many syncs were made.
+    ghost syncs: { Self → ℕ };
+
+    /// How many syncs a call makes at most. To take a set may need as many for each of its records.
+    ghost most_syncs: { ℕ };
+
     /// Whether memory is short, so that what a set holds is to be taken before more comes into it.
     fn is_short(&self, fresh: &S) -> bool
         ensures { result ≡ short fresh.now };
@@ -69,21 +76,26 @@ pub trait Keeping<S: Store> {
         ensures hands { (k : Kept) → stands self.old k → (j : Kept) × stands self.new j
             × HandsOver k j (S.entries fresh.old) (S.entries fresh.new) }
         ensures empty { OnOk result (S.entries fresh.new ≡ []) }
-        ensures short { OnOk result (short fresh.new ≡ false) };
+        ensures short { OnOk result (short fresh.new ≡ false) }
+        ensures syncs { MakesAtMost (take_syncs most_syncs (length (S.entries fresh.old)))
+            (syncs self.old) (syncs self.new) };
 
     /// Commits what it holds: once this has returned `Ok`, every crash leaves it. It fails as the
     /// variants of [`KeepFault`] say.
     fn commit(&mut self, alloc: Global) -> Result<(), KeepFault>
         ensures ok { OnOk result ((k : Kept) → stands self.old k → stands self.new (all_committed k)) }
-        ensures err { OnErr result ((k : Kept) → stands self.old k → stands self.new k) };
+        ensures err { OnErr result ((k : Kept) → stands self.old k → stands self.new k) }
+        ensures syncs { MakesAtMost most_syncs (syncs self.old) (syncs self.new) };
 
     /// Opens the store again after a call on the disk has failed. What waits still waits.
     fn reopen(&mut self, alloc: Global) -> Result<(), KeepFault>
-        ensures { (k : Kept) → stands self.old k → stands self.new k };
+        ensures kept { (k : Kept) → stands self.old k → stands self.new k }
+        ensures syncs { MakesAtMost most_syncs (syncs self.old) (syncs self.new) };
 
     /// Moves what it holds to other files, so that the journal is short again. It holds the same.
     fn checkpoint(&mut self, alloc: Global) -> Result<(), KeepFault>
-        ensures { (k : Kept) → stands self.old k → stands self.new k };
+        ensures kept { (k : Kept) → stands self.old k → stands self.new k }
+        ensures syncs { MakesAtMost most_syncs (syncs self.old) (syncs self.new) };
 
     /// How many octets the batches of the journal take in its file.
     fn journal_len(&self) -> u64;

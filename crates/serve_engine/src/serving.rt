@@ -6,12 +6,13 @@ ghost use Rattle.syslog_collect.specs.History.{AcceptedEvent};
 ghost use Rattle.serve_engine.specs.declared.turn.Turn.TheVariants.{On};
 ghost use Rattle.socket_source.specs.Steps.{IsWithin, octets_of};
 ghost use Rattle.serve_engine.specs.Events.{event_of, manner_of};
-ghost use Rattle.serve_engine.specs.Intakes.{StandsBy};
+ghost use Rattle.serve_engine.specs.Intakes.{StandsBy, waiting_in};
 ghost use Rattle.serve_engine.specs.Keepings.{Kept};
 ghost use Rattle.serve_engine.specs.Notes.{TellTurns, Telling, TellsTurn, told_in};
 ghost use Rattle.serve_engine.specs.Refusals.{KeepsSilent, kept_in, with_peer};
-ghost use Rattle.serve_engine.specs.Servers.{ServesRun, ServesTurn, intake_of, place_of, told_of};
+ghost use Rattle.serve_engine.specs.Servers.{ServesRun, ServesTurn, SyncsTo, intake_of, place_of, told_of};
 ghost use Rattle.serve_engine.specs.Serving.{ClosesOwn, IsStepTurn, ServesStep, asks_commit, is_last};
+ghost use Rattle.serve_engine.specs.Syncs.{MakesAtMost, turn_syncs};
 
 use crate::keeping::{Keeping, Pause};
 use crate::serve_end::ServeEnd;
@@ -59,6 +60,8 @@ impl<S: Store + Drop, K: Keeping<S> + Drop, N: Output + Drop, R: Output + Drop> 
         ensures notes { (k : Kept) (first : List Entry) (before : List AcceptedEvent)
             → StandsBy S.entries K.stands self.old.intake k first before
             → TellsTurn (told_in N.state self.old.report) (told_in N.state self.new.report) }
+        ensures syncs { MakesAtMost (turn_syncs K.most_syncs (waiting_in S.entries self.old.intake))
+            (K.syncs self.old.intake.keeper) (K.syncs self.new.intake.keeper) }
     {
         match step {
             ServerStep::Opened {
@@ -111,6 +114,9 @@ impl<S: Store + Drop, K: Keeping<S> + Drop, N: Output + Drop, R: Output + Drop> 
         ensures notes { (k : Kept) (first : List Entry) (before : List AcceptedEvent)
             → StandsBy S.entries K.stands (intake_of self.old) k first before
             → TellsTurn (told_of N.state self.old) (told_of N.state self.new) }
+        // For each record that waited at its start, a turn makes the syncs of a call at most once.
+        ensures syncs { MakesAtMost (turn_syncs K.most_syncs (waiting_in S.entries (intake_of self.old)))
+            (K.syncs (intake_of self.old).keeper) (K.syncs (intake_of self.new).keeper) }
     {
         if self.full {
             pause.pause();
@@ -141,6 +147,10 @@ impl<S: Store + Drop, K: Keeping<S> + Drop, N: Output + Drop, R: Output + Drop> 
             → StandsBy S.entries K.stands (intake_of self.old) k first before
             → NoneWaits (intake_of self.old).collector → (turns : List Telling)
             × TellTurns turns (told_of N.state self.old) (told_of N.state self.new) }
+        // Each turn makes at most the syncs of one at whose start so many records waited.
+        ensures syncs { SyncsTo S.entries K.stands K.syncs K.most_syncs result
+            (place_of R.state K.short self.old (Q.state source.old))
+            (place_of R.state K.short self.new (Q.state source.new)) }
     {
         let Ok(mut buf) = vec![in alloc; 0u8; PIECE_MAX] else {
             return ServeEnd::Memory;

@@ -5,13 +5,14 @@ ghost use Rattle.socket_source.specs.Steps.{Closes};
 ghost use Rattle.syslog_collect.specs.Collectors.{NoneWaits};
 ghost use Rattle.syslog_collect.specs.History.{AcceptedEvent, Datagram, Ended, Opened, Piece};
 ghost use Rattle.serve_engine.specs.Events.{Receives, bad_last, ends_in_bad_count, manner_of};
-ghost use Rattle.serve_engine.specs.Intakes.{StandsBy};
+ghost use Rattle.serve_engine.specs.Intakes.{StandsBy, waiting_in};
 ghost use Rattle.serve_engine.specs.Keepings.{Kept};
 ghost use Rattle.serve_engine.specs.Notes.{IsNote, Passes, TellsFew, TellsTurn, told_in};
 ghost use Rattle.serve_engine.specs.Paces.{PaysFor};
 ghost use Rattle.serve_engine.specs.Refusals.{KeepsSilent, kept_in, peer_counted};
 ghost use Rattle.serve_engine.specs.Serving.{Accepts, ClosesLost, CommitsAll, EndsUnlessFull, FaultsAs};
 ghost use Rattle.serve_engine.specs.Serving.{IsCommitTurn, IsEventTurn, IsToldFull, TellsFull, UnlessStopped};
+ghost use Rattle.serve_engine.specs.Syncs.{MakesAtMost, commit_syncs, turn_syncs};
 ghost use Rattle.serve_engine.specs.declared.serve_end.ServeEnd.TheVariants.{Disk, Memory};
 ghost use Rattle.serve_engine.specs.declared.turn.Turn.TheVariants.{End, On};
 
@@ -84,6 +85,7 @@ impl<S: Store + Drop, K: Keeping<S> + Drop, N: Output + Drop, R: Output + Drop> 
         ensures full { self.new.full ≡ self.old.full }
         ensures turn { result ≡ On }
         ensures notes { TellsTurn (told_in N.state self.old.report) (told_in N.state self.new.report) }
+        ensures keeper { self.new.intake.keeper ≡ self.old.intake.keeper }
     {
         let way = Way::Stream(framing, peer);
         match self.intake.open(alloc, conn, framing) {
@@ -113,6 +115,7 @@ impl<S: Store + Drop, K: Keeping<S> + Drop, N: Output + Drop, R: Output + Drop> 
         ensures turn { result ≡ On }
         ensures closes { Closes (Q.state source.old) (Q.state source.new) lost }
         ensures report { self.new.report ≡ self.old.report }
+        ensures keeper { self.new.intake.keeper ≡ self.old.intake.keeper }
     {
         source.close(lost);
         self.peers.set(lost, None);
@@ -138,6 +141,7 @@ impl<S: Store + Drop, K: Keeping<S> + Drop, N: Output + Drop, R: Output + Drop> 
         ensures notes { (k : Kept) (first : List Entry) (before : List AcceptedEvent)
             → StandsBy S.entries K.stands self.old.intake k first before
             → TellsTurn (told_in N.state self.old.report) (told_in N.state self.new.report) }
+        ensures keeper { self.new.intake.keeper ≡ self.old.intake.keeper }
     {
         let way = self.peers.get(conn);
         self.report.begin_piece(way, octets.len());
@@ -170,6 +174,7 @@ impl<S: Store + Drop, K: Keeping<S> + Drop, N: Output + Drop, R: Output + Drop> 
         ensures full { self.new.full ≡ self.old.full }
         ensures turn { result ≡ On }
         ensures notes { TellsTurn (told_in N.state self.old.report) (told_in N.state self.new.report) }
+        ensures keeper { self.new.intake.keeper ≡ self.old.intake.keeper }
     {
         let way = self.peers.get(conn);
         self.peers.set(conn, None);
@@ -191,6 +196,7 @@ impl<S: Store + Drop, K: Keeping<S> + Drop, N: Output + Drop, R: Output + Drop> 
         ensures full { self.new.full ≡ self.old.full }
         ensures turn { result ≡ On }
         ensures notes { TellsTurn (told_in N.state self.old.report) (told_in N.state self.new.report) }
+        ensures keeper { self.new.intake.keeper ≡ self.old.intake.keeper }
     {
         let way = way_of(peer);
         let received = self.intake.receive(alloc, Event::Datagram { octets });
@@ -273,6 +279,8 @@ impl<S: Store + Drop, K: Keeping<S> + Drop, N: Output + Drop, R: Output + Drop> 
         ensures told { TellsFull result self.old.told self.new.full self.new.told }
         ensures notes { TellsFew 1 (N.state self.old.report.notes) (N.state self.new.report.notes) }
         ensures pace { self.new.report.pace ≡ self.old.report.pace }
+        ensures syncs { MakesAtMost (commit_syncs K.most_syncs (waiting_in S.entries self.old.intake))
+            (K.syncs self.old.intake.keeper) (K.syncs self.new.intake.keeper) }
     {
         match self.intake.commit(alloc) {
             Ok(taken) => {
@@ -297,6 +305,8 @@ impl<S: Store + Drop, K: Keeping<S> + Drop, N: Output + Drop, R: Output + Drop> 
             → TellsFull result self.old.told self.new.full self.new.told }
         ensures notes { TellsFew 1 (N.state self.old.report.notes) (N.state self.new.report.notes) }
         ensures pace { self.new.report.pace ≡ self.old.report.pace }
+        ensures syncs { MakesAtMost K.most_syncs
+            (K.syncs self.old.intake.keeper) (K.syncs self.new.intake.keeper) }
     {
         if self.full || self.intake.keeper.journal_len() <= checkpoint_len {
             return Turn::On;
@@ -353,6 +363,8 @@ impl<S: Store + Drop, K: Keeping<S> + Drop, N: Output + Drop, R: Output + Drop> 
             → self.new.told ≡ self.new.full }
         ensures notes { TellsFew 2 (N.state self.old.report.notes) (N.state self.new.report.notes) }
         ensures pace { self.new.report.pace ≡ self.old.report.pace }
+        ensures syncs { MakesAtMost K.most_syncs
+            (K.syncs self.old.intake.keeper) (K.syncs self.new.intake.keeper) }
     {
         match self.checkpoint(alloc, checkpoint_len) {
             Turn::On => {
@@ -373,6 +385,8 @@ impl<S: Store + Drop, K: Keeping<S> + Drop, N: Output + Drop, R: Output + Drop> 
         ensures told { result ≡ On → self.new.told ≡ self.new.full }
         ensures notes { TellsFew STATUS_LINES (N.state self.old.report.notes) (N.state self.new.report.notes) }
         ensures pace { Passes millis self.old.report.pace self.new.report.pace }
+        ensures syncs { MakesAtMost (turn_syncs K.most_syncs (waiting_in S.entries self.old.intake))
+            (K.syncs self.old.intake.keeper) (K.syncs self.new.intake.keeper) }
     {
         match self.commit(alloc) {
             Turn::On => {
@@ -409,6 +423,8 @@ impl<S: Store + Drop, K: Keeping<S> + Drop, N: Output + Drop, R: Output + Drop> 
         ensures kept { KeepsSilent true (kept_in R.state self.old.report) (kept_in R.state self.new.report) }
         ensures notes { TellsFew 2 (N.state self.old.report.notes) (N.state self.new.report.notes) }
         ensures pace { self.new.report.pace ≡ self.old.report.pace }
+        ensures syncs { MakesAtMost (commit_syncs K.most_syncs (waiting_in S.entries self.old.intake))
+            (K.syncs self.old.intake.keeper) (K.syncs self.new.intake.keeper) }
     {
         match self.commit(alloc) {
             Turn::On => self.end_with(end),
@@ -426,6 +442,8 @@ impl<S: Store + Drop, K: Keeping<S> + Drop, N: Output + Drop, R: Output + Drop> 
         ensures told { TellsFull result self.old.told self.new.full self.new.told }
         ensures notes { TellsFew 1 (N.state self.old.report.notes) (N.state self.new.report.notes) }
         ensures pace { self.new.report.pace ≡ self.old.report.pace }
+        ensures syncs { MakesAtMost (turn_syncs K.most_syncs (waiting_in S.entries self.old.intake))
+            (K.syncs self.old.intake.keeper) (K.syncs self.new.intake.keeper) }
     {
         match self.intake.reopen(alloc) {
             Ok(()) => self.commit(alloc),

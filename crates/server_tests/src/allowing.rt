@@ -173,6 +173,10 @@ impl Keeping<PagedArchive> for NoKeeper {
 
     ghost short = { λ _. false };
 
+    ghost syncs = { λ _. 0 };
+
+    ghost most_syncs = { 0 };
+
     fn is_short(&self, _fresh: &PagedArchive) -> bool {
         false
     }

@@ -37,6 +37,10 @@ impl Keeping<PagedArchive> for CountKeeper {
 
     ghost short = { λ _. false };
 
+    ghost syncs = { λ _. 0 };
+
+    ghost most_syncs = { 0 };
+
     fn is_short(&self, _fresh: &PagedArchive) -> bool {
         false
     }

@@ -73,7 +73,7 @@ fn fault_of_checkpoint(fault: CheckpointFault) -> KeepFault {
 }
 
 impl<D: Disk + Drop> DiskKeeper<D> {
-    ghost use Rattle.std.specs.Prelude.{◌≡◌, List, IfErr, IfOk, OnOk};
+    ghost use Rattle.std.specs.Prelude.{◌≡◌, ◌+◌, ◌*◌, List, IfErr, IfOk, OnOk, length};
     ghost use Rattle.archive_text.specs.Entries.{Entry};
     ghost use Rattle.disk.specs.Calls.{AtMostSyncs};
     ghost use Rattle.record_store.specs.Crashes.{Keeps};
@@ -148,7 +148,9 @@ impl<D: Disk + Drop> DiskKeeper<D> {
 
     // Frees the memory of what is in memory, if anything is.
     fn free_memory(&mut self, alloc: Global) -> Result<(), KeepFault>
-        ensures { (k : Kept) → KeepsOn self.old k → KeepsOn self.new k }
+        ensures kept { (k : Kept) → KeepsOn self.old k → KeepsOn self.new k }
+        ensures syncs { AtMostSyncs CHECKPOINT_SYNCS (D.syncs (disk_of self.old))
+            (D.syncs (disk_of self.new)) }
     {
         if self.store.len() == 0 {
             return Ok(());
@@ -158,7 +160,9 @@ impl<D: Disk + Drop> DiskKeeper<D> {
 
     // Frees memory if it is short.
     fn relieve(&mut self, alloc: Global, short: bool) -> Result<(), KeepFault>
-        ensures { (k : Kept) → KeepsOn self.old k → KeepsOn self.new k }
+        ensures kept { (k : Kept) → KeepsOn self.old k → KeepsOn self.new k }
+        ensures syncs { AtMostSyncs CHECKPOINT_SYNCS (D.syncs (disk_of self.old))
+            (D.syncs (disk_of self.new)) }
     {
         if !short {
             return Ok(());
@@ -167,17 +171,21 @@ impl<D: Disk + Drop> DiskKeeper<D> {
     }
 
     // Adds all records of a set. Where there is no memory for one, that of those before it is freed, and
-    // it goes on with that one, as long as there is any to be freed.
+    // it goes on with that one, as long as there is any to be freed. Once that was done, the store is empty,
+    // so a round in which it is done again has added a record: the rounds are never used up.
     fn add_set(&mut self, alloc: Global, fresh: &mut SparedSet) -> Result<Taken, KeepFault>
         ensures same { pages_of fresh.new ≡ pages_of fresh.old }
         ensures all { OnOk result ((k : Kept) → KeepsOn self.old k
             → KeepsOn self.new (with_held k (spared_entries fresh.old))) }
         ensures some { (k : Kept) → KeepsOn self.old k → (some : List Entry)
             × AreAmong some (spared_entries fresh.old) × KeepsOn self.new (with_held k some) }
+        ensures syncs { AtMostSyncs (CHECKPOINT_SYNCS * (length (spared_entries fresh.old) + 1))
+            (D.syncs (disk_of self.old)) (D.syncs (disk_of self.new)) }
     {
         let mut taken = Taken { new: 0, held: 0 };
         let mut place = Place::first();
-        for _round in 0..u64::MAX {
+        let rounds = fresh.len().saturating_add(1);
+        for _round in 0..rounds {
             match add_from(
                 alloc,
                 &mut self.store,
@@ -208,6 +216,10 @@ impl<D: Disk + Drop> Keeping<SparedSet> for DiskKeeper<D> {
     ghost stands = { λ keeper k. KeepsOn keeper k };
 
     ghost short = { λ fresh. is_short fresh };
+
+    ghost syncs = { λ keeper. D.syncs (disk_of keeper) };
+
+    ghost most_syncs = { CHECKPOINT_SYNCS };
 
     fn is_short(&self, fresh: &SparedSet) -> bool {
         fresh.is_short()

@@ -4,10 +4,11 @@ ghost use Rattle.archive_text.specs.Entries.{Entry};
 ghost use Rattle.syslog_collect.specs.Collectors.{NoneWaits, limit_of, reading_of};
 ghost use Rattle.syslog_collect.specs.History.{AcceptedEvent};
 ghost use Rattle.syslog_collect.specs.declared.limits.TheConstants.{CONNECTIONS_LIMIT, CONNECTIONS_MAX};
+ghost use Rattle.durable_store.specs.declared.checkpoint.TheConstants.{CHECKPOINT_SYNCS};
 ghost use Rattle.serve_engine.specs.Intakes.{StandsBy};
 ghost use Rattle.serve_engine.specs.Keepings.{Kept};
-ghost use Rattle.serve_engine.specs.Servers.{LeadsTo, intake_of, place_of};
-ghost use Rattle.store_keeper.specs.Keepers.{KeepsOn};
+ghost use Rattle.serve_engine.specs.Servers.{LeadsTo, SyncsTo, intake_of, place_of};
+ghost use Rattle.store_keeper.specs.Keepers.{KeepsOn, disk_of};
 ghost use Rattle.store_keeper.specs.Keeping.{kept_whole};
 ghost use Rattle.store_keeper.specs.Runs.{RunLeaves};
 ghost use Rattle.store_keeper.specs.Spares.{is_short, spared_entries};
@@ -64,6 +65,10 @@ pub fn serve<D: Disk + Drop, N: Output + Drop, R: Output + Drop, Q: ServerSource
         → RunLeaves result (place_of R.state is_short server.old (Q.state source.old))
         (place_of R.state is_short server.new (Q.state source.new)) k first before }
     ensures leads { LeadsTo spared_entries KeepsOn result (place_of R.state is_short server.old (Q.state source.old))
+        (place_of R.state is_short server.new (Q.state source.new)) }
+    // Each turn makes few syncs of the disk.
+    ensures syncs { SyncsTo spared_entries KeepsOn (λ keeper. D.syncs (disk_of keeper)) CHECKPOINT_SYNCS result
+        (place_of R.state is_short server.old (Q.state source.old))
         (place_of R.state is_short server.new (Q.state source.new)) }
 {
     server.serve(alloc, source, pause, options)

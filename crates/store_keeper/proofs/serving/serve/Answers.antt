@@ -9,3 +9,6 @@ returns-clause-leaves g c k first before at none =
 
 pub returns-clause-leads : goal.returns-clause-leads
 returns-clause-leads g c = c.serve.ensures.served.leads
+
+pub returns-clause-syncs : goal.returns-clause-syncs
+returns-clause-syncs g c = c.serve.ensures.syncs

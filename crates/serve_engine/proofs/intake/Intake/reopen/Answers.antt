@@ -2,7 +2,7 @@ use Rattle.serve_engine.proofs.intake.Intake.reopen.Goals as goal
 
 pub returns-clause-stands : goal.returns-clause-stands
 returns-clause-stands g c k first before at = record {
-  keeper = c.reopen.ensures k at.keeper;
+  keeper = c.reopen.ensures.kept k at.keeper;
   within = at.within;
   collector = at.collector;
 }

@@ -13,6 +13,7 @@ loop-turn-init g c = record {
   manner = refl;
   told = λ k first before at none. ([], refl);
   leads = ([], refl);
+  syncs = ([], refl);
 }
 
 pub loop-turn-preserved : goal.loop-turn-preserved
@@ -30,6 +31,11 @@ loop-turn-preserved g c = record {
     place_of (g.R.Output.state) (g.K.Keeping.short) c.loop-turn.self (g.Q.ServerSource.state c.loop-turn.source)
         ∷ c.loop-turn.invariant.leads.0,
     (c.loop-turn.invariant.leads.1, rw c.in-On.is at c.turn.ensures.served),
+  );
+  syncs = (
+    place_of (g.R.Output.state) (g.K.Keeping.short) c.loop-turn.self (g.Q.ServerSource.state c.loop-turn.source)
+        ∷ c.loop-turn.invariant.syncs.0,
+    (c.loop-turn.invariant.syncs.1, rw c.in-On.is at c.turn.ensures.served, c.turn.ensures.syncs),
   );
 }
 
@@ -68,3 +74,24 @@ returns-in-End-clause-notes g c k first before at none =
 
 pub returns-clause-notes : goal.returns-clause-notes
 returns-clause-notes g c k first before at none = c.loop-turn.invariant.told k first before at none
+
+pub returns-in_default-clause-syncs : goal.returns-in_default-clause-syncs
+returns-in_default-clause-syncs g c = (
+  place_of (g.R.Output.state) (g.K.Keeping.short) c.args.self.now (g.Q.ServerSource.state c.args.source.now),
+  ([], refl),
+  inl refl,
+)
+
+pub returns-in-End-clause-syncs : goal.returns-in-End-clause-syncs
+returns-in-End-clause-syncs g c = (
+  place_of (g.R.Output.state) (g.K.Keeping.short) c.loop-turn.self (g.Q.ServerSource.state c.loop-turn.source),
+  c.loop-turn.invariant.syncs,
+  inr (rw c.in-End.is at c.turn.ensures.served, c.turn.ensures.syncs),
+)
+
+pub returns-clause-syncs : goal.returns-clause-syncs
+returns-clause-syncs g c = (
+  place_of (g.R.Output.state) (g.K.Keeping.short) c.loop-turn.self (g.Q.ServerSource.state c.loop-turn.source),
+  c.loop-turn.invariant.syncs,
+  inl refl,
+)

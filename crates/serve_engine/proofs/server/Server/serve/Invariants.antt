@@ -6,7 +6,7 @@ use Rattle.serve_engine.specs.Events.{manner_of}
 use Rattle.serve_engine.specs.Intakes.{StandsBy}
 use Rattle.serve_engine.specs.Keepings.{Kept}
 use Rattle.serve_engine.specs.Notes.{TellTurns, Telling}
-use Rattle.serve_engine.specs.Servers.{LeadsFrom, place_of, told_of}
+use Rattle.serve_engine.specs.Servers.{LeadsFrom, SyncsFrom, place_of, told_of}
 use Rattle.serve_engine.proofs.Rounds.{SoFar}
 use Rattle.serve_engine.proofs.server.Server.serve.Given as goal
 
@@ -26,6 +26,9 @@ invariant-loop-turn g l = record {
       (turns : List Telling) × TellTurns turns (told_of (g.N.Output.state) l.fn.self) (told_of
       (g.N.Output.state) l.self);
   leads : LeadsFrom (g.S.Store.entries) (g.K.Keeping.stands)
+      (place_of (g.R.Output.state) (g.K.Keeping.short) l.fn.self (g.Q.ServerSource.state l.fn.source))
+      (place_of (g.R.Output.state) (g.K.Keeping.short) l.self (g.Q.ServerSource.state l.source));
+  syncs : SyncsFrom (g.S.Store.entries) (g.K.Keeping.stands) (g.K.Keeping.syncs) (g.K.Keeping.most_syncs)
       (place_of (g.R.Output.state) (g.K.Keeping.short) l.fn.self (g.Q.ServerSource.state l.fn.source))
       (place_of (g.R.Output.state) (g.K.Keeping.short) l.self (g.Q.ServerSource.state l.source));
 }

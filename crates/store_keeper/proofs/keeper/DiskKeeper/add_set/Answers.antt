@@ -1,4 +1,4 @@
-use Rattle.std.proofs.Common.{◌≡◌, ◌++◌, ◌∙◌, [], List, refl, sym, subst}
+use Rattle.std.proofs.Common.{arith, ◌≡◌, ◌++◌, ◌∙◌, [], List, refl, sym, subst}
 use Rattle.archive_pages.specs.Paged.{entries_from, entries_in}
 use Rattle.archive_pages.specs.declared.paged.PagedArchive.{PagedArchive}
 use Rattle.archive_text.specs.Entries.{Entry}
@@ -13,6 +13,7 @@ loop-round-init g c = record {
   front = [];
   parts = sym (c.first-place.ensures (pages_of c.args.fresh.now));
   kept = λ k on tells. none k c.args.self.now.store (g.D.Disk.state c.args.self.now.disk.disk) (on tells);
+  syncs = omega arith;
 }
 
 pub add_from-requires : goal.add_from-requires
@@ -30,9 +31,10 @@ loop-round-preserved g c =
       same = c.give_up.ensures.pages ∙ i.same;
       front = i.front ++ more.front;
       parts = parts_join _ i.front _ more.front _ i.parts more.parts;
-      kept = λ k on. c.free_memory.ensures (with_held k (i.front ++ more.front)) (λ tells.
+      kept = λ k on. c.free_memory.ensures.kept (with_held k (i.front ++ more.front)) (λ tells.
           kept_both k c.add_from.new.store (g.D.Disk.state c.loop-round.self.disk.disk) i.front more.front
           (more.takes (g.D.Disk.state c.loop-round.self.disk.disk) (with_held k i.front) (i.kept k on tells)));
+      syncs = omega (arith, i.syncs, c.free_memory.ensures.syncs);
     }
 
 pub returns-in-Ok-clause-same : goal.returns-in-Ok-clause-same
@@ -75,7 +77,7 @@ returns-in_err-free_memory-in-Err-Memory-clause-some g c k on =
     c.add_from.ensures.front in (
       i.front ++ more.front,
       among_front _ (i.front ++ more.front) _ (parts_join _ i.front _ more.front _ i.parts more.parts),
-      c.free_memory.ensures (with_held k (i.front ++ more.front)) (λ tells.
+      c.free_memory.ensures.kept (with_held k (i.front ++ more.front)) (λ tells.
           kept_both k c.add_from.new.store (g.D.Disk.state c.loop-round.self.disk.disk) i.front more.front
           (more.takes (g.D.Disk.state c.loop-round.self.disk.disk) (with_held k i.front) (i.kept k on tells))),
     )
@@ -95,6 +97,7 @@ returns-in-Err g c =
         λ tells. kept_both k c.add_from.new.store (g.D.Disk.state c.loop-round.self.disk.disk) i.front more.front
             (more.takes (g.D.Disk.state c.loop-round.self.disk.disk) (with_held k i.front) (i.kept k on tells)),
       );
+      syncs = omega (arith, i.syncs);
     }
 
 pub returns-clause-same : goal.returns-clause-same
