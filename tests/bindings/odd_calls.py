@@ -1,8 +1,10 @@
 """Prints what the package answers to odd arguments, a line each: whichever way it makes its calls, the lines are the same."""
 import copy
 import dataclasses
+import importlib
 import inspect
 import pickle
+import sys
 
 import syslogbox
 from syslogbox import Dialect, Element, Record
@@ -115,7 +117,28 @@ def of_objects():
             yield answer(syslogbox.RecordError, kind, field, 2 ** 64 - 1), answer(syslogbox.RecordError, kind, field, -1)
 
 
+def of_modules():
+    """Modules that are loaded again, and an import that was broken off, as Ctrl-C does, before it is tried again."""
+    for name in ("_faults", "_library", "_records", "_streams"):
+        yield name, answer(lambda: importlib.reload(sys.modules[f"syslogbox.{name}"]).__name__)
+    for place in ("in_c", "Dialect", "Refusal"):
+        def stop(frame, event, _):
+            if event == "call" and frame.f_code.co_name == place:
+                sys.setprofile(None)
+                raise KeyboardInterrupt
+
+        for name in [name for name in sys.modules if name.split(".")[0] == "syslogbox"]:
+            del sys.modules[name]
+        sys.setprofile(stop)
+        try:
+            importlib.import_module("syslogbox")
+            yield place, "is not there"
+        except KeyboardInterrupt:
+            yield place, answer(lambda: importlib.import_module("syslogbox").view(LINE))
+            yield place, answer(lambda: importlib.import_module("syslogbox").view(b"<0>1")), answer(syslogbox.view, LINE)
+
+
 if __name__ == "__main__":
-    for part in (of_octets, of_records, of_packets, of_streams, of_objects):
+    for part in (of_octets, of_records, of_packets, of_streams, of_objects, of_modules):
         for row in part():
             print(part.__name__, *row)
