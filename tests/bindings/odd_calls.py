@@ -17,6 +17,13 @@ class Octets(bytes):
     """Octets of a class of its own."""
 
 
+class Short(bytes):
+    """Octets that tell a wrong length."""
+
+    def __len__(self):
+        return 3
+
+
 class Words(str):
     """A string of a class of its own."""
 
@@ -42,7 +49,7 @@ def answer(call, *args, **names):
 
 
 def of_octets():
-    strange = [b"", LINE, Octets(LINE), LINE[:9], LINE + b"\r\n", LINE[:60], "text", None, 7, 1.5, bytearray(LINE), memoryview(LINE), [1],
+    strange = [b"", LINE, Octets(LINE), Short(LINE), LINE[:9], LINE + b"\r\n", LINE[:60], "text", None, 7, 1.5, bytearray(LINE), memoryview(LINE), [1],
                (LINE,), b"<0>1 - - - - - " + b"[a" + b' k="\\\\"' * 5_000 + b"] x", b"<0>1 - - - - - [a][a]", b"x" * 600_000,
                b"<0>1 - - - - - - " + b"x" * 524_278, b"<0>1 - - - - - - " + b"x" * 524_279, b"\x00" * 40, b"<0>1 0000-01-01T00:00:00+01:00 - - - - -"]
     for call in (syslogbox.check, syslogbox.is_record, syslogbox.canonical, syslogbox.view, syslogbox.trimmed, syslogbox.framed):
@@ -67,7 +74,7 @@ def of_records():
                            (Element("\ud800"),), (Element("a", (("k", "\ud800"),)),), (Element("a b"),), (Element("a", (("", "v"),)),),
                            (Element("a", (("k", "\"\\]\n\xe9\U0001f600" * 99),)),), (Element(Words("a")),), (Element("x" * 32), Element("x" * 33)),
                            tuple(Element(f"e{n}", (deep,) * 20) for n in range(50)), (Element(None),), (Element("a", None),), "ab"],
-              "message": [b"", b"\xff", b"\xef\xbb\xbfx", b"x" * 524_288, "x", None, bytearray(b"x"), Octets(b"x")],
+              "message": [b"", b"\xff", b"\xef\xbb\xbfx", b"x" * 524_288, "x", None, bytearray(b"x"), Octets(b"x"), Short(b"x" * 999)],
               "bom": [True, False, 0, 1, 2 ** 32, None, "x"]}
     for name, values in fields.items():
         for value in values:
@@ -86,7 +93,7 @@ def of_packets():
         yield "minutes", repr(minutes), answer(syslogbox.legacy, packet, 2003, minutes), answer(syslogbox.legacy, packet, 2003, offset_minutes=minutes)
     for dialect in (1, 2, 3, 0, -1, 2 ** 70, True, Dialect.WIDE, "WIDE", None, 1.0):
         yield "dialect", repr(dialect), answer(syslogbox.legacy, packet, 2003, dialect=dialect), answer(syslogbox.legacy, packet, 2003, 0, dialect)
-    for one in (b"", b"<0>1 x", LINE, b"\xef\xbb\xbf\xff", Octets(packet), "x", None, bytearray(packet), b"x" * 524_295, b"x" * 524_296):
+    for one in (b"", b"<0>1 x", LINE, b"\xef\xbb\xbf\xff", Octets(packet), Short(packet), "x", None, bytearray(packet), b"x" * 524_295, b"x" * 524_296):
         yield "packet", answer(syslogbox.legacy, one, 2003), answer(syslogbox.legacy, packet=one, year=2003)
     yield "legacy", answer(syslogbox.legacy), answer(syslogbox.legacy, packet), answer(syslogbox.legacy, packet, 2003, wrong=1)
 
