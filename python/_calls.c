@@ -51,6 +51,7 @@ struct state {
     PyObject *texts[FUNCTIONS];                /* what their names and texts lie in */
     PyMethodDef definitions[FUNCTIONS];
     PyObject *nothing;                         /* an empty tuple */
+    PyObject *former;                          /* a list of what was replaced, which a call may be using */
 };
 
 static struct state *state_of(PyObject *module)
@@ -766,6 +767,16 @@ static uintptr_t address_of(PyObject *addresses, const char *name)
     return PyErr_Occurred() ? 0 : address;
 }
 
+/* Puts an object in a place, also of another one: a module of the package may be loaded again. */
+static int put(struct state *state, PyObject **place, PyObject *object)
+{
+    if (*place && PyList_Append(state->former, *place))
+        return -1;
+    Py_XDECREF(*place); /* the list holds it */
+    *place = Py_NewRef(object);
+    return 0;
+}
+
 /* set_up(addresses, RecordError, FieldError): a mapping of the names of calls to where they are, and classes. */
 static PyObject *set_up(PyObject *module, PyObject *args)
 {
@@ -774,10 +785,6 @@ static PyObject *set_up(PyObject *module, PyObject *args)
 
     if (!PyArg_ParseTuple(args, "OOO:set_up", &addresses, &record_error, &field_error))
         return NULL;
-    if (state->record_error) {
-        PyErr_SetString(PyExc_RuntimeError, "the calls are set up already");
-        return NULL;
-    }
 #define FIND(name)                                                                                  \
     if (!(all.calls.name = (__typeof__(syslogbox_##name) *)address_of(addresses, #name)))           \
         return NULL;
@@ -788,8 +795,9 @@ static PyObject *set_up(PyObject *module, PyObject *args)
             return NULL;
     if (!state->nothing && !(state->nothing = PyTuple_New(0)))
         return NULL;
-    state->record_error = Py_NewRef(record_error);
-    state->field_error = Py_NewRef(field_error);
+    if ((!state->former && !(state->former = PyList_New(0))) || put(state, &state->record_error, record_error) ||
+        put(state, &state->field_error, field_error))
+        return NULL;
     return Py_NewRef(Py_None);
 }
 
@@ -801,12 +809,8 @@ static PyObject *shows(PyObject *module, PyObject *args)
 
     if (!PyArg_ParseTuple(args, "O!O!:shows", &PyType_Type, &record, &PyType_Type, &element))
         return NULL;
-    if (state->record) {
-        PyErr_SetString(PyExc_RuntimeError, "the classes are known already");
+    if (put(state, &state->record, record) || put(state, &state->element, element))
         return NULL;
-    }
-    state->record = Py_NewRef(record);
-    state->element = Py_NewRef(element);
     return Py_NewRef(Py_None);
 }
 
@@ -823,13 +827,13 @@ static PyObject *bound(PyObject *module, PyObject *args)
         return NULL;
     while (which < FUNCTIONS && strcmp(functions[which].name, name))
         which++;
-    if (which == FUNCTIONS || state->fallbacks[which] || !state->record_error ||
+    if (which == FUNCTIONS || !state->record_error ||
         ((which == VIEW || which == BUILD) && !state->record)) {
         PyErr_Format(PyExc_ValueError, "%s is not a function to be bound here", name);
         return NULL;
     }
-    state->fallbacks[which] = Py_NewRef(function);
-    state->texts[which] = Py_NewRef(text);
+    if (put(state, &state->fallbacks[which], function) || put(state, &state->texts[which], text))
+        return NULL;
     state->definitions[which] = (PyMethodDef){functions[which].name, (PyCFunction)(void (*)(void))functions[which].call,
                                               METH_FASTCALL | METH_KEYWORDS, told};
     return PyCFunction_NewEx(&state->definitions[which], module, of);
@@ -852,6 +856,7 @@ static int traverse(PyObject *module, visitproc visit, void *arg)
     Py_VISIT(state->field_error);
     Py_VISIT(state->record);
     Py_VISIT(state->element);
+    Py_VISIT(state->former);
     for (int i = 0; i < FUNCTIONS; i++)
         Py_VISIT(state->fallbacks[i]);
     return 0;
@@ -869,6 +874,7 @@ static void free_state(void *module)
     Py_CLEAR(state->record);
     Py_CLEAR(state->element);
     Py_CLEAR(state->nothing);
+    Py_CLEAR(state->former);
     for (int i = 0; i < ATTRIBUTES; i++)
         Py_CLEAR(state->names[i]);
     for (int i = 0; i < FUNCTIONS; i++) {

@@ -196,7 +196,7 @@ def size(octets: bytes) -> int:
     """How many octets there are. Raises TypeError for what is not bytes."""
     if not isinstance(octets, bytes):
         raise no_octets(octets)
-    return len(octets)
+    return bytes.__len__(octets)  # a class of its own may say something else
 
 
 def whole(name: str, value: SupportsIndex) -> int:

@@ -20,6 +20,7 @@ FACILITIES = ("kern", "user", "mail", "daemon", "auth", "syslog", "lpr", "news",
 SEVERITIES = "emerg", "alert", "crit", "err", "warning", "notice", "info", "debug"
 _EPOCH = datetime(1970, 1, 1, tzinfo=timezone.utc)
 _YEAR_1 = -62_135_596_800_000_000  # its first instant, in microseconds
+_size = bytes.__len__  # that of a class of its own may say something else
 
 
 @dataclass(frozen=True)
@@ -115,7 +116,7 @@ library.shows(Record, Element)
 def is_record(record: bytes) -> bool:
     """Whether the octets are a record of RFC 5424."""
     try:
-        size = len(record)
+        size = _size(record)
         return (_check_short if size < SHORT else _check)(record, size, None) == 1
     except (TypeError, ctypes.ArgumentError):
         raise library.no_octets(record) from None
@@ -129,7 +130,7 @@ def check(record: bytes) -> None:
     faster.
     """
     try:
-        size = len(record)
+        size = _size(record)
         answer = (_check_short if size < SHORT else _check)(record, size, None)
     except (TypeError, ctypes.ArgumentError):
         raise library.no_octets(record) from None
@@ -141,7 +142,7 @@ def check(record: bytes) -> None:
 def refusal(record: bytes) -> RecordError:
     """Why octets are not a record."""
     fault = library.Fault()
-    _check(record, len(record), ctypes.byref(fault))
+    _check(record, _size(record), ctypes.byref(fault))
     return RecordError(fault.kind, fault.field, fault.offset)
 
 
@@ -196,7 +197,7 @@ def _shown(record: bytes) -> Iterator[Tuple[int, ...]]:
     room, width = 24, library.PART_SPAN.size
     while True:
         out, fault = bytearray(room * width), library.Fault()
-        count = library.spans(record, len(record), library.room_of(out), room, ctypes.byref(fault))
+        count = library.spans(record, _size(record), library.room_of(out), room, ctypes.byref(fault))
         if count < 0:
             raise library.error_of(RecordError, fault)
         if count <= room:
@@ -252,7 +253,7 @@ def build(record: Record) -> bytes:
         min(max(micros, -2 ** 63), 2 ** 63 - 1), record.micros is not None, _number("facility", record.facility),
         _number("severity", record.severity), record.bom, *words, (library.Item * len(items))(*items), len(items),
         library.Text(record.message, library.size(record.message)))
-    octets = sum(item.text.len for item in items) + sum(word.len for word in words) + len(record.message)
+    octets = sum(item.text.len for item in items) + sum(word.len for word in words) + fields.message.len
     # a value may have an escape for each octet, and an item two octets and two marks more
     return library.text(FieldError, library.build, 2 * octets + 4 * len(items) + 64, ctypes.byref(fields))
 

@@ -1,8 +1,10 @@
 """Prints what the package answers to odd arguments, a line each: whichever way it makes its calls, the lines are the same."""
 import copy
 import dataclasses
+import importlib
 import inspect
 import pickle
+import sys
 
 import syslogbox
 from syslogbox import Dialect, Element, Record
@@ -13,6 +15,13 @@ WHOLE = syslogbox.view(LINE)
 
 class Octets(bytes):
     """Octets of a class of its own."""
+
+
+class Short(bytes):
+    """Octets that tell a wrong length."""
+
+    def __len__(self):
+        return 3
 
 
 class Words(str):
@@ -40,7 +49,7 @@ def answer(call, *args, **names):
 
 
 def of_octets():
-    strange = [b"", LINE, Octets(LINE), LINE[:9], LINE + b"\r\n", LINE[:60], "text", None, 7, 1.5, bytearray(LINE), memoryview(LINE), [1],
+    strange = [b"", LINE, Octets(LINE), Short(LINE), LINE[:9], LINE + b"\r\n", LINE[:60], "text", None, 7, 1.5, bytearray(LINE), memoryview(LINE), [1],
                (LINE,), b"<0>1 - - - - - " + b"[a" + b' k="\\\\"' * 5_000 + b"] x", b"<0>1 - - - - - [a][a]", b"x" * 600_000,
                b"<0>1 - - - - - - " + b"x" * 524_278, b"<0>1 - - - - - - " + b"x" * 524_279, b"\x00" * 40, b"<0>1 0000-01-01T00:00:00+01:00 - - - - -"]
     for call in (syslogbox.check, syslogbox.is_record, syslogbox.canonical, syslogbox.view, syslogbox.trimmed, syslogbox.framed):
@@ -65,7 +74,7 @@ def of_records():
                            (Element("\ud800"),), (Element("a", (("k", "\ud800"),)),), (Element("a b"),), (Element("a", (("", "v"),)),),
                            (Element("a", (("k", "\"\\]\n\xe9\U0001f600" * 99),)),), (Element(Words("a")),), (Element("x" * 32), Element("x" * 33)),
                            tuple(Element(f"e{n}", (deep,) * 20) for n in range(50)), (Element(None),), (Element("a", None),), "ab"],
-              "message": [b"", b"\xff", b"\xef\xbb\xbfx", b"x" * 524_288, "x", None, bytearray(b"x"), Octets(b"x")],
+              "message": [b"", b"\xff", b"\xef\xbb\xbfx", b"x" * 524_288, "x", None, bytearray(b"x"), Octets(b"x"), Short(b"x" * 999)],
               "bom": [True, False, 0, 1, 2 ** 32, None, "x"]}
     for name, values in fields.items():
         for value in values:
@@ -84,7 +93,7 @@ def of_packets():
         yield "minutes", repr(minutes), answer(syslogbox.legacy, packet, 2003, minutes), answer(syslogbox.legacy, packet, 2003, offset_minutes=minutes)
     for dialect in (1, 2, 3, 0, -1, 2 ** 70, True, Dialect.WIDE, "WIDE", None, 1.0):
         yield "dialect", repr(dialect), answer(syslogbox.legacy, packet, 2003, dialect=dialect), answer(syslogbox.legacy, packet, 2003, 0, dialect)
-    for one in (b"", b"<0>1 x", LINE, b"\xef\xbb\xbf\xff", Octets(packet), "x", None, bytearray(packet), b"x" * 524_295, b"x" * 524_296):
+    for one in (b"", b"<0>1 x", LINE, b"\xef\xbb\xbf\xff", Octets(packet), Short(packet), "x", None, bytearray(packet), b"x" * 524_295, b"x" * 524_296):
         yield "packet", answer(syslogbox.legacy, one, 2003), answer(syslogbox.legacy, packet=one, year=2003)
     yield "legacy", answer(syslogbox.legacy), answer(syslogbox.legacy, packet), answer(syslogbox.legacy, packet, 2003, wrong=1)
 
@@ -115,7 +124,28 @@ def of_objects():
             yield answer(syslogbox.RecordError, kind, field, 2 ** 64 - 1), answer(syslogbox.RecordError, kind, field, -1)
 
 
+def of_modules():
+    """Modules that are loaded again, and an import that was broken off, as Ctrl-C does, before it is tried again."""
+    for name in ("_faults", "_library", "_records", "_streams"):
+        yield name, answer(lambda: importlib.reload(sys.modules[f"syslogbox.{name}"]).__name__)
+    for place in ("in_c", "Dialect", "Refusal"):
+        def stop(frame, event, _):
+            if event == "call" and frame.f_code.co_name == place:
+                sys.setprofile(None)
+                raise KeyboardInterrupt
+
+        for name in [name for name in sys.modules if name.split(".")[0] == "syslogbox"]:
+            del sys.modules[name]
+        sys.setprofile(stop)
+        try:
+            importlib.import_module("syslogbox")
+            yield place, "is not there"
+        except KeyboardInterrupt:
+            yield place, answer(lambda: importlib.import_module("syslogbox").view(LINE))
+            yield place, answer(lambda: importlib.import_module("syslogbox").view(b"<0>1")), answer(syslogbox.view, LINE)
+
+
 if __name__ == "__main__":
-    for part in (of_octets, of_records, of_packets, of_streams, of_objects):
+    for part in (of_octets, of_records, of_packets, of_streams, of_objects, of_modules):
         for row in part():
             print(part.__name__, *row)
