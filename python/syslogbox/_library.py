@@ -137,7 +137,8 @@ _fault_text = _call("fault_text", ctypes.c_size_t, POINTER, POINTER, SIZE)
 
 def _module() -> Optional[ModuleType]:
     """The module in C (_calls.c), if it was built for this Python, and the environment does not say otherwise."""
-    if sys.version_info < (3, 10) or os.environ.get("SYSLOGBOX_CTYPES"):
+    free_threaded = "t" in getattr(sys, "abiflags", "")  # its counts of references are others
+    if sys.version_info < (3, 10) or free_threaded or os.environ.get("SYSLOGBOX_CTYPES"):
         return None
     try:
         module = importlib.import_module("syslogbox._calls")
