@@ -15,6 +15,7 @@ turns) as a multiple of that of syslogbox, and of the seconds. A tool whose answ
 and then the status is 1.
 """
 import argparse
+import calendar
 import os
 import re
 import resource
@@ -41,8 +42,7 @@ HEADER = re.compile(rb"<(\d+)>1 (\S+) (\S+) (\S+) (\S+) (\S+) (?:-|\[.*?\]) ?(.*
 
 def micros(text):
     """Microseconds since 1970 of a canonical time."""
-    seconds, fraction = time.strptime(text[:19].decode(), "%Y-%m-%dT%H:%M:%S"), int(text[20:26])
-    return (int(time.mktime((*seconds[:6], 0, 0, 0))) - time.timezone) * 1_000_000 + fraction
+    return calendar.timegm(time.strptime(text[:19].decode(), "%Y-%m-%dT%H:%M:%S")) * 1_000_000 + int(text[20:26])
 
 
 def export_of(records):
