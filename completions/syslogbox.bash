@@ -5,7 +5,7 @@
 _syslogbox_options() {
     case "$1" in
         show)
-            echo "--framing --trim --legacy --zone --dialect --endless --json --help"
+            echo "--framing --trim --legacy --zone --dialect --endless --json --color --help"
             ;;
         check)
             echo "--framing --trim --legacy --zone --dialect --endless --summary --help"
@@ -14,26 +14,36 @@ _syslogbox_options() {
             echo "--framing --trim --legacy --zone --dialect --endless --to --help"
             ;;
         archive)
-            echo "--framing --trim --legacy --zone --dialect --spill --memory --help"
+            echo "--framing --trim --legacy --zone --dialect --spill --memory --quiet --help"
             ;;
-        merge | migrate | union | common | minus | diff | root | prove | confirm | verify | stat | compact | add)
-            echo "--help"
+        merge | migrate | union | common | minus | diff | root | prove | verify | compact | add)
+            echo "--quiet --help"
             ;;
         select)
             echo "--from --to --undated --only-undated --severity --facility --host --app --proc --msgid --id"
-            echo "--message --host-like --app-like --not-host --not-app --not-message --help"
+            echo "--message --host-like --app-like --not-host --not-app --not-message --quiet --help"
             ;;
         digest)
-            echo "--by --help"
+            echo "--by --quiet --help"
             ;;
         count)
-            echo "--by --top --json --bars --help"
+            echo "--by --top --json --bars --quiet --help"
+            ;;
+        confirm | stat | backup)
+            echo "--help"
             ;;
         read)
-            echo "--from --to --undated --help"
+            echo "--from --to --undated --only-undated --severity --facility --host --app --proc --msgid --id"
+            echo "--message --host-like --app-like --not-host --not-app --not-message --last --as --color --help"
             ;;
         expire)
-            echo "--before --keep --undated --dry-run --help"
+            echo "--before --keep --undated --dry-run --quiet --help"
+            ;;
+        reconcile)
+            echo "--from --to --undated --pull --push --dry-run --room --timeout --quiet --help"
+            ;;
+        answer)
+            echo "--read-only --room --timeout --help"
             ;;
         send)
             echo "--facility --severity --up-to --framing --host --app --proc --msgid --micros --help"
@@ -58,16 +68,22 @@ _syslogbox_value() {
         "convert --zone" | "archive --legacy" | "archive --zone" | "archive --memory" | "select --from" | \
         "select --to" | "select --host" | "select --app" | "select --proc" | "select --msgid" | "select --id" | \
         "select --message" | "select --host-like" | "select --app-like" | "select --not-host" | "select --not-app" | \
-        "select --not-message" | "count --by" | "count --top" | "read --from" | "read --to" | "expire --before" | \
-        "expire --keep" | "send --host" | "send --app" | "send --proc" | "send --msgid" | "send --micros" | \
-        "collect --legacy" | "collect --zone" | "serve --udp" | "serve --counted" | "serve --lf" | "serve --allow" | \
-        "serve --connections" | "serve --per-peer" | "serve --idle" | "serve --commit" | "serve --checkpoint" | \
-        "serve --legacy" | "serve --zone")
+        "select --not-message" | "count --by" | "count --top" | "read --from" | "read --to" | "read --host" | \
+        "read --app" | "read --proc" | "read --msgid" | "read --id" | "read --message" | "read --host-like" | \
+        "read --app-like" | "read --not-host" | "read --not-app" | "read --not-message" | "read --last" | \
+        "expire --before" | "expire --keep" | "reconcile --from" | "reconcile --to" | "reconcile --room" | \
+        "reconcile --timeout" | "answer --room" | "answer --timeout" | "send --host" | "send --app" | \
+        "send --proc" | "send --msgid" | "send --micros" | "collect --legacy" | "collect --zone" | "serve --udp" | \
+        "serve --counted" | "serve --lf" | "serve --allow" | "serve --connections" | "serve --per-peer" | \
+        "serve --idle" | "serve --commit" | "serve --checkpoint" | "serve --legacy" | "serve --zone")
             echo "text"
             ;;
         "show --dialect" | "check --dialect" | "convert --dialect" | "archive --dialect" | "collect --dialect" | \
         "serve --dialect")
             echo "words bsd wide"
+            ;;
+        "show --color" | "read --color")
+            echo "words auto always never"
             ;;
         "convert --to" | "send --framing")
             echo "words counted lf"
@@ -75,15 +91,18 @@ _syslogbox_value() {
         "archive --spill")
             echo "folder"
             ;;
-        "select --severity" | "send --severity" | "send --up-to")
+        "select --severity" | "read --severity" | "send --severity" | "send --up-to")
             echo "words emerg alert crit err warning notice info debug"
             ;;
-        "select --facility" | "send --facility")
+        "select --facility" | "read --facility" | "send --facility")
             echo "words kern user mail daemon auth syslog lpr news uucp cron authpriv ftp ntp audit alert clock"
             echo "local0 local1 local2 local3 local4 local5 local6 local7"
             ;;
         "digest --by")
             echo "words month day hour"
+            ;;
+        "read --as")
+            echo "words archive lines json show"
             ;;
         "serve --unix")
             echo "file"
@@ -100,7 +119,8 @@ _syslogbox_place() {
         "merge "* | "migrate "* | "union "* | "common "* | "minus "* | "diff "* | "prove "* | "confirm 3")
             echo "file"
             ;;
-        "read "* | "verify "* | "stat "* | "compact "* | "add "* | "expire "* | "serve "*)
+        "read "* | "verify "* | "stat "* | "compact "* | "add "* | "expire "* | "reconcile "* | "answer "* | \
+        "backup "* | "serve "*)
             echo "folder"
             ;;
         "collect 1")
@@ -111,7 +131,7 @@ _syslogbox_place() {
 
 _syslogbox() {
     local command=${COMP_WORDS[1]} word=$2 previous=$3 kind="" action="" words=""
-    local commands="show check convert archive merge migrate union common minus diff select digest count root prove confirm read verify stat compact add expire send collect serve help"
+    local commands="show check convert archive merge migrate union common minus diff select digest count root prove confirm read verify stat compact add expire reconcile answer backup send collect serve help"
     if [ "$COMP_CWORD" -eq 1 ]; then
         words="$commands --help --version"
     elif [ "$command" = help ]; then

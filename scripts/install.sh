@@ -16,7 +16,9 @@ install -D -m 644 completions/syslogbox.fish "$to/share/fish/vendor_completions.
 # systemd splits a line at spaces, and reads quotes, %, $ and \ as its own; then come the signs of sed
 called=$(printf '%s\n' "$prefix" |
     sed 's/\\/\\x5c/g; s/ /\\x20/g; s/'"'"'/\\x27/g; s/"/\\x22/g; s/%/%%/g; s/\$/$$/g' | sed 's/[\\&|]/\\&/g')
-install -D -m 755 contrib/until-stopped "$to/lib/syslogbox/until-stopped"
+for script in until-stopped two-way; do
+    install -D -m 755 "contrib/$script" "$to/lib/syslogbox/$script"
+done
 for unit in contrib/*.service contrib/*.socket contrib/*.timer; do
     [ -f "$unit" ] || continue
     sed "s|/usr/bin/syslogbox|$called/bin/syslogbox|; s|/usr/lib/syslogbox/|$called/lib/syslogbox/|" "$unit" | install -D -m 644 /dev/stdin "$to/lib/systemd/system/${unit##*/}"

@@ -250,17 +250,23 @@ def roff_flag(option):
     return f"Fl \\-{roff(option.name)}" + (f" Ar {roff_value(option)}" if option.has_value else "")
 
 
-def synopsis(command):
-    """What a command takes: `.Ar` for what has to be given, `.Op` for what may be."""
-    lines = []
-    for option in command[2]:
-        if option.is_placed:
-            lines.append(f".Ar {option.value}{' ...' if option.form == 'Several' else ''}")
-        elif option.is_listener:
-            lines += [] if ".Ar listener ..." in lines else [".Ar listener ..."]
-        else:
-            lines.append(f".Op {roff_flag(option)}{' ...' if option.form == 'List' else ''}")
-    return lines
+def roff_of(option, conditions):
+    """How a synopsis has an option: several that name listeners, or that are conditions, are one word."""
+    if option in conditions:
+        return ".Op Ar conditions"
+    if option.is_placed:
+        return f".Ar {option.value}{' ...' if option.form == 'Several' else ''}"
+    if option.is_listener:
+        return ".Ar listener ..."
+    return f".Op {roff_flag(option)}{' ...' if option.form == 'List' else ''}"
+
+
+def synopsis(command, selecting):
+    """What a command takes: `.Ar` for what has to be given, `.Op` for what may be. One with a list of `select` has its conditions."""
+    options = command[2]
+    lists = {it for it in selecting if it.form == "List"}
+    conditions = {it for it in selecting if it.name != "quiet"} if lists & set(options) else set()
+    return list(dict.fromkeys(roff_of(option, conditions) for option in options))
 
 
 def thousands(text):
@@ -299,7 +305,7 @@ def lists(commands):
     by = {name: (name, about, options) for name, about, options in commands}
     own = [it for it in by["serve"][2] if not it.is_placed]
     own = [it for it in own if it not in by["collect"][2]]
-    wanted = {f"synopsis of {name}": synopsis(command) for name, command in by.items()}
+    wanted = {f"synopsis of {name}": synopsis(command, by["select"][2]) for name, command in by.items()}
     wanted["listeners of serve"] = roff_list([it for it in own if it.is_listener])
     wanted["options of serve"] = roff_list([it for it in own if not it.is_listener])
     wanted["table of serve"] = table([it for it in own if not it.is_listener])

@@ -7,6 +7,9 @@ usage: tests/run.py PROGRAM INJECTION TRIAL [PART..]
        tests/run.py bindings PROGRAM [--records N] [--seed N]
        tests/run.py stores PROGRAM TRIAL [--rounds N] [--disks N] [--seed N]
        tests/run.py clients PROGRAM [--seconds N]
+       tests/run.py lying-sites PROGRAM [--cases N] [--jobs N] [--seed N]
+       tests/run.py kills-of-sites PROGRAM [--kills N] [--seed N]
+       tests/run.py three-sites PROGRAM [--seconds N] [--rate N] [--seed N]
        tests/run.py noisy PROGRAM [--seconds N] [--folder FOLDER] [KIND..]
        tests/run.py mutants [--jobs N] [CRATE..]
        tests/run.py senders PROGRAM [--tools FOLDER]
@@ -35,14 +38,15 @@ from lib.results import Results
 from lib.side_by_side import Parts, cores, python
 
 # the parts that run side by side, those that take longest first; each is a module of cases/ with a function of its name
-SIDE_BY_SIDE = ["stores", "libraries", "algebra", "mutated", "serving", "serving_short", "legacy", "bindings", "commands", "verdicts", "archives",
-                "unsafe_folders", "damaged_journals", "damaged_segments", "many_days", "full_pipes", "notes_pace", "sending",
-                "collect", "adding", "expiring", "statistics", "spilling", "counting", "proofs", "scarce_memory", "documents", "sockets", "descriptors", "costs", "auditing"]
+SIDE_BY_SIDE = ["stores", "reconciling", "lying_sites", "libraries", "algebra", "mutated", "serving", "serving_short", "legacy", "bindings", "commands", "verdicts", "archives",
+                "reading", "terminal", "unsafe_folders", "damaged_journals", "damaged_segments", "many_days", "full_pipes", "notes_pace", "sending",
+                "collect", "backing_up", "adding", "expiring", "statistics", "spilling", "counting", "proofs", "scarce_memory", "documents", "sockets", "descriptors", "costs", "auditing"]
 # these run after the others, one after the other: `soak` takes all cores itself, the others measure
 AT_THE_END = ["soak", "colliding_ids", "noisy_senders"]
 MODULES = {"soak": "hostile.soak"}
 PARTS = SIDE_BY_SIDE + AT_THE_END
 ALONE = {"soak": "hostile.soak", "algebra": "hostile.archives", "stores": "hostile.stores", "clients": "hostile.clients",
+         "lying-sites": "hostile.lying_sites", "kills-of-sites": "hostile.kills_of_sites", "three-sites": "hostile.three_sites",
          "bindings": "bindings.lines",
          "mutants": "mutants.run", "noisy": "cases.noisy_senders", "senders": "peers.senders", "load": "peers.load", "cluster": "peers.cluster",
          "serve-clients": "peers.serve_clients", "serve-soak": "peers.serve_soak", "serve-load": "peers.serve_load"}
@@ -53,7 +57,7 @@ def try_part(name, words, results):
     part = getattr(import_module(MODULES.get(name, f"cases.{name}")), name)
     with tempfile.TemporaryDirectory() as path:
         program, injection, trial = (Program(word, Folder(path)) for word in words)
-        part(*{"libraries": [injection], "stores": [program, trial]}.get(name, [program]), results)
+        part(*{"libraries": [injection], "stores": [program, trial], "reading": [program, trial]}.get(name, [program]), results)
 
 
 def share_memory():
@@ -67,7 +71,7 @@ def share_memory():
 
 def there(names, words, results):
     """Those of the parts whose programs are there, and all else that they need; the others are told."""
-    lacking = {name: "its program is not there" for name, word in zip(["libraries", "stores"], words[1:]) if word == "-"}
+    lacking = {name: "its program is not there" for name, word in [("libraries", words[1]), ("stores", words[2]), ("reading", words[2])] if word == "-"}
     if not share_memory():
         lacking |= dict.fromkeys(["soak", "noisy_senders"], "no process may write to /dev/shm")
     for name in names:

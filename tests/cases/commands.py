@@ -56,9 +56,18 @@ def usages(program, results):
     names = re.findall(r"^  ([a-z]+) ", listed.split("Commands:")[1].split("\n\n")[0], re.MULTILINE)
     results.check("--help lists the commands", {"check", "serve"} <= set(names), listed)
     for name in sorted({*names} - {"help"}):
-        for words in [[name, "--help"], ["help", name], [name, "--no-such-option"]]:
-            text = program.run(words, b"")[2].decode()
-            results.check(f"{' '.join(words)}: the usage", re.search(f"\nUsage: syslogbox {name}[ \n]", text), text)
+        usage = f"\nUsage: syslogbox {name}[ \n]"
+        for words in [["help", name], [name, "--no-such-option"]]:
+            status, output, notes = program.run(words, b"")
+            right = (status, output) == (2, b"") and re.search(usage, notes.decode())
+            results.check(f"{' '.join(words)}: the usage", right, str((status, output, notes)))
+        for words, part in [([name, "--help"], usage), ([name, "-h"], usage), ([name, "--version"], r"syslogbox.* \d+\.\d+\.\d+\n$")]:
+            status, output, notes = program.run(words, b"")
+            right = (status, notes) == (0, b"") and re.search(part, output.decode())
+            results.check(f"{' '.join(words)}: on standard output", right, str((status, output, notes)))
+    with open("/dev/full", "wb") as full:
+        seen = program.run(["check", "--help"], b"", stdout=full)
+    results.check("check --help on a full device", (seen[0], seen[2]) == (2, b"write fault\n"), str(seen))
 
 
 def unescaped(text):

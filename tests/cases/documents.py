@@ -17,11 +17,11 @@ from lib.reference import archive_text
 from peers.records import PLAIN
 
 DOCUMENTS = [path for folder in (".", "docs", "cluster") for path in sorted((ROOT / folder).glob("*.md"))]
-TOURS = ["README.md", "docs/COMMANDS.md", "docs/COMING_FROM.md", "docs/RECIPES.md"]  # those that begin in an empty folder
+TOURS = ["README.md", "docs/COMMANDS.md", "docs/COMING_FROM.md", "docs/RECIPES.md", "docs/SITES.md"]  # those that begin in an empty folder
 PAGES = sorted((ROOT / "man").glob("*.[1-8]"))
 LINTERS = [["groff", "-ww", "-mandoc", "-Tutf8"], ["mandoc", "-T", "lint", "-W", "warning"]]
 README_LINES, COLUMNS, WORDS = 150, 120, 30
-PLAIN_PAGES = ["README.md", "docs/OPERATING.md", "docs/AUDITING.md", "docs/RECIPES.md"]  # whose sentences are short
+PLAIN_PAGES = ["README.md", "docs/OPERATING.md", "docs/AUDITING.md", "docs/RECIPES.md", "docs/SITES.md"]  # whose sentences are short
 FENCED = re.compile(r"^```.*?^```$", re.MULTILINE | re.DOTALL)
 SPAN = re.compile(r"`([^`]+)`")
 LINK = re.compile(r"\[[^\]]*\]\(([^)\s]+)\)")

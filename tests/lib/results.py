@@ -2,7 +2,9 @@
 
 
 def difference(seen, right):
-    """How an answer (status, output, notes) is another than it must be: the first line that differs."""
+    """How what was seen is other than it must be; of an answer (status, output, notes) the first line that differs."""
+    if not (isinstance(seen, tuple) and isinstance(right, tuple) and len(seen) == len(right) == 3):
+        return f"{seen} for {right}"[:3_000]
     told = f"status {seen[0]} for {right[0]}"
     for name, one, other in zip(("output", "notes"), seen[1:], right[1:]):
         if one is None or one == other:

@@ -22,7 +22,8 @@ AWAY = 6  # times as many records as a client has come while a server is away: m
 LATER = 60  # seconds in which they have to be there, once it is back
 BACK = 13  # seconds after which a daemon has found a server that came back, by the files
 KILLS, EACH = 2, 600  # kills, and the records before each
-EXPOSURE = 2.0  # of the service, as `systemd-analyze security` judges it from 0 to 10
+UNIT_KINDS = ["service", "socket", "timer"]
+EXPOSURE = 2.0  # of a service, as `systemd-analyze security` judges it from 0 to 10
 
 
 def text_of(name, **places):
@@ -217,16 +218,20 @@ def analyzed(program, results, path, folder):
     """What systemd-analyze says of the units, whose program is this one."""
     own = folder / "units"
     own.mkdir()
-    for name in ("syslogbox.service", "syslogbox.socket"):
-        (own / name).write_text((CONTRIB / name).read_text().replace("/usr/bin/syslogbox", program.path))
-    seen = subprocess.run([path, "verify", "--man=no", *map(str, own.iterdir())], capture_output=True, text=True)
-    told = seen.stdout + seen.stderr
-    results.check("systemd-analyze verify", (seen.returncode, told) == (0, ""), told)
-    seen = subprocess.run([path, "security", "--offline=true", "--no-pager", f"--threshold={int(EXPOSURE * 10)}",
-                           str(own / "syslogbox.service")], capture_output=True, text=True)
-    last = " ".join(word for word in seen.stdout.split("\n→")[-1].split() if word.isascii())
-    results.check(f"systemd-analyze security: at most {EXPOSURE}", seen.returncode == 0, last or seen.stderr)
-    print(f"systemd-analyze security: {last}")
+    for unit in [one for kind in UNIT_KINDS for one in CONTRIB.glob(f"*.{kind}")]:
+        text = unit.read_text().replace("/usr/bin/syslogbox", program.path).replace("/usr/lib/syslogbox", str(CONTRIB))
+        (own / unit.name).write_text(text)
+        if "@." in unit.name:
+            (own / unit.name.replace("@.", "@1.")).write_text(text)
+    told = [str(unit) for unit in sorted(own.iterdir()) if "@." not in unit.name]
+    seen = subprocess.run([path, "verify", "--man=no", *told], capture_output=True, text=True)
+    results.check("systemd-analyze verify", (seen.returncode, seen.stdout + seen.stderr) == (0, ""), seen.stdout + seen.stderr)
+    for unit in [one for one in told if one.endswith(".service")]:
+        seen = subprocess.run([path, "security", "--offline=true", "--no-pager", f"--threshold={int(EXPOSURE * 10)}", unit],
+                              capture_output=True, text=True)
+        last = " ".join(word for word in seen.stdout.split("\n→")[-1].split() if word.isascii())
+        results.check(f"systemd-analyze security: at most {EXPOSURE}", seen.returncode == 0, last or seen.stderr)
+        print(f"systemd-analyze security: {last}")
 
 
 def contrib(program, results, tools, daemons, count):

@@ -11,13 +11,16 @@ ARM = re.compile(r"^ *([a-z]+(?: \| [a-z]+)*)\)(.*?);;", re.MULTILINE | re.DOTAL
 
 
 def help_of(program, *words):
-    return subprocess.run([program, *words, "--help"], capture_output=True, text=True).stderr
+    """The help of the program, on standard error, or that of a command, on standard output."""
+    done = subprocess.run([program, *words, "--help"], capture_output=True, text=True)
+    return done.stdout or done.stderr
 
 
 def listed(program):
-    """The options that `--help` lists, by command."""
+    """The options that `--help` lists, by command, but for `--version`, which every command has."""
     commands = re.findall(r"^  ([a-z]+) ", help_of(program).split("Commands:")[1].split("\n\n")[0], re.MULTILINE)
-    options = {name: set(re.findall(r"^ +(?:-\w, )?(--[a-z-]+)", help_of(program, name), re.MULTILINE)) for name in commands if name != "help"}
+    options = {name: set(re.findall(r"^ +(?:-\w, )?(--[a-z-]+)", help_of(program, name), re.MULTILINE)) - {"--version"}
+               for name in commands if name != "help"}
     return {**options, "help": set()}
 
 

@@ -4,6 +4,10 @@ use Rattle.clap.specs.Walk.{Rule, Text}
 use Rattle.clap.specs.declared.builder.action.ArgAction.TheVariants.{Append, SetTrue}
 use Rattle.clap.specs.Simple.{App, new_app, new_rule, on_top, with_rule, with_subcommand}
 
+-- a command that has a version to tell
+abbrev pub command_app : Text → App
+command_app name = on_top (λ s. record s { has_version = true }) (new_app name)
+
 -- an option that takes a value
 abbrev pub option_rule : Text → Rule
 option_rule id = record (new_rule id) { long = Some id }
@@ -42,15 +46,23 @@ with_reading_rules a = with_legacy_rules (with_rule a (flag_rule (codes "trim"))
 
 -- a command that reads records
 abbrev pub input_app : Text → App
-input_app name = with_reading_rules (with_rule (new_app name) (default_rule (codes "framing") (codes "datagram")))
+input_app name = with_reading_rules (with_rule (command_app name) (default_rule (codes "framing") (codes "datagram")))
 
 -- a command on the frames of an input that may have any length
 abbrev pub endless_app : Text → App
 endless_app name = with_rule (input_app name) (flag_rule (codes "endless"))
 
+-- the option that says when records are colored
+abbrev pub with_color_rule : App → App
+with_color_rule a = with_rule a (default_rule (codes "color") (codes "auto"))
+
+-- the option of commands that may take long
+abbrev pub with_quiet_rule : App → App
+with_quiet_rule a = with_rule a (flag_rule (codes "quiet"))
+
 -- the command that writes the fields of records
 abbrev pub show_app : App
-show_app = with_rule (endless_app (codes "show")) (flag_rule (codes "json"))
+show_app = with_color_rule (with_rule (endless_app (codes "show")) (flag_rule (codes "json")))
 
 -- the command that tells of each frame whether it is a record
 abbrev pub check_app : App
@@ -63,21 +75,21 @@ convert_app = with_rule (endless_app (codes "convert")) (option_rule (codes "to"
 -- the command that writes records as an archive
 abbrev pub archive_app : App
 archive_app =
-    with_rule (with_rule (input_app (codes "archive")) (option_rule (codes "spill")))
-    (default_rule (codes "memory") (codes "256"))
+    with_quiet_rule (with_rule (with_rule (input_app (codes "archive")) (option_rule (codes "spill")))
+    (default_rule (codes "memory") (codes "256")))
 
 -- a command that reads the archives of two files
 abbrev pub two_files_app : Text → App
 two_files_app name =
-    with_rule (with_rule (new_app name) (required_rule (codes "LEFT"))) (required_rule (codes "RIGHT"))
+    with_quiet_rule (with_rule (with_rule (command_app name) (required_rule (codes "LEFT"))) (required_rule (codes "RIGHT")))
 
 -- the command that brings the old archive of a file into the present form
 abbrev pub migrate_app : App
-migrate_app = with_rule (new_app (codes "migrate")) (required_rule (codes "FILE"))
+migrate_app = with_quiet_rule (with_rule (command_app (codes "migrate")) (required_rule (codes "FILE")))
 
 -- the command that joins archives
 abbrev pub union_app : App
-union_app = with_rule (new_app (codes "union")) (several_rule (codes "FILE"))
+union_app = with_quiet_rule (with_rule (command_app (codes "union")) (several_rule (codes "FILE")))
 
 -- the options for a range of time
 abbrev pub with_range_rules : App → App
@@ -90,22 +102,26 @@ with_time_rules a =
 
 -- the command that sums up an archive, period by period
 abbrev pub digest_app : App
-digest_app = with_rule (new_app (codes "digest")) (default_rule (codes "by") (codes "day"))
+digest_app = with_quiet_rule (with_rule (command_app (codes "digest")) (default_rule (codes "by") (codes "day")))
 
 -- the command that counts the records of an archive
 abbrev pub count_app : App
 count_app =
-    with_rule (with_rule (with_rule (with_rule (new_app (codes "count")) (option_rule (codes "by")))
-    (option_rule (codes "top"))) (flag_rule (codes "json"))) (flag_rule (codes "bars"))
+    with_quiet_rule (with_rule (with_rule (with_rule (with_rule (command_app (codes "count")) (option_rule (codes "by")))
+    (option_rule (codes "top"))) (flag_rule (codes "json"))) (flag_rule (codes "bars")))
+
+-- the command that writes the head of an archive's tree
+abbrev pub root_app : App
+root_app = with_quiet_rule (command_app (codes "root"))
 
 -- the command that proves what an archive has
 abbrev pub prove_app : App
-prove_app = with_rule (new_app (codes "prove")) (required_rule (codes "RECORDS"))
+prove_app = with_quiet_rule (with_rule (command_app (codes "prove")) (required_rule (codes "RECORDS")))
 
 -- the command that says what proofs show
 abbrev pub confirm_app : App
 confirm_app =
-    with_rule (with_rule (with_rule (new_app (codes "confirm")) (required_rule (codes "COUNT")))
+    with_rule (with_rule (with_rule (command_app (codes "confirm")) (required_rule (codes "COUNT")))
     (required_rule (codes "ROOT"))) (required_rule (codes "RECORDS"))
 
 -- the options of `send` that have a default value
@@ -124,7 +140,7 @@ with_word_rules a =
 -- the command that sends one record
 abbrev pub send_app : App
 send_app =
-    with_rule (with_rule (with_word_rules (with_send_defaults (new_app (codes "send")))) (option_rule (codes "micros")))
+    with_rule (with_rule (with_word_rules (with_send_defaults (command_app (codes "send")))) (option_rule (codes "micros")))
     (required_rule (codes "TEXT"))
 
 -- the options of `select` on the priority: one severity, and any number of facilities
@@ -152,24 +168,33 @@ with_not_rules a =
     with_rule (with_rule (with_rule a (list_rule (codes "not-host"))) (list_rule (codes "not-app")))
     (list_rule (codes "not-message"))
 
+-- all options for what records have to be like
+abbrev pub with_condition_rules : App → App
+with_condition_rules a =
+    with_not_rules (with_pattern_rules (with_body_rules (with_header_rules (with_priority_rules (with_time_rules a)))))
+
 -- the command that chooses records of an archive
 abbrev pub select_app : App
-select_app =
-    with_not_rules (with_pattern_rules (with_body_rules (with_header_rules (with_priority_rules
-    (with_time_rules (new_app (codes "select")))))))
+select_app = with_quiet_rule (with_condition_rules (command_app (codes "select")))
 
 -- a command on the store in a folder
 abbrev pub folder_app : Text → App
-folder_app name = with_rule (new_app name) (required_rule (codes "DIR"))
+folder_app name = with_rule (command_app name) (required_rule (codes "DIR"))
 
--- the command that writes the archive of a store
+-- a command on a store that may take long
+abbrev pub long_app : Text → App
+long_app name = with_quiet_rule (folder_app name)
+
+-- the command that writes the records of a store
 abbrev pub read_app : App
-read_app = with_rule (with_range_rules (folder_app (codes "read"))) (flag_rule (codes "undated"))
+read_app =
+    with_color_rule (with_rule (with_rule (with_condition_rules (folder_app (codes "read"))) (option_rule (codes "last")))
+    (default_rule (codes "as") (codes "archive")))
 
 -- the command that receives records from sockets
 abbrev pub collect_app : App
 collect_app =
-    with_reading_rules (with_rule (with_rule (with_rule (new_app (codes "collect"))
+    with_reading_rules (with_rule (with_rule (with_rule (command_app (codes "collect"))
     (required_rule (codes "TRANSPORT"))) (required_rule (codes "PORT"))) (required_rule (codes "COUNT")))
 
 -- the options that name addresses
@@ -231,7 +256,7 @@ with_set_commands a =
 -- the commands on proofs
 abbrev pub with_proof_commands : App → App
 with_proof_commands a =
-    with_subcommand (with_subcommand (with_subcommand a (new_app (codes "root")).top) prove_app.top) confirm_app.top
+    with_subcommand (with_subcommand (with_subcommand a root_app.top) prove_app.top) confirm_app.top
 
 -- the commands that read an archive as it comes
 abbrev pub with_stream_commands : App → App
@@ -246,20 +271,49 @@ with_archives a = with_stream_commands (with_set_commands (with_archive_commands
 -- the command that removes old records from a store
 abbrev pub expire_app : App
 expire_app =
-    with_rule (with_rule (with_rule (with_rule (folder_app (codes "expire")) (option_rule (codes "before")))
-    (option_rule (codes "keep"))) (flag_rule (codes "undated"))) (flag_rule (codes "dry-run"))
+    with_quiet_rule (with_rule (with_rule (with_rule (with_rule (folder_app (codes "expire")) (option_rule (codes "before")))
+    (option_rule (codes "keep"))) (flag_rule (codes "undated"))) (flag_rule (codes "dry-run")))
 
 -- the commands that change a store
 abbrev pub with_changers : App → App
 with_changers a =
-    with_subcommand (with_subcommand (with_subcommand a (folder_app (codes "compact")).top)
-    (folder_app (codes "add")).top) expire_app.top
+    with_subcommand (with_subcommand (with_subcommand a (long_app (codes "compact")).top)
+    (long_app (codes "add")).top) expire_app.top
 
--- the commands on a store
+-- the options of a command that talks to another site: how much it takes, and how long it waits
+abbrev pub with_site_rules : App → App
+with_site_rules a =
+    with_rule (with_rule a (default_rule (codes "room") (codes "1024"))) (default_rule (codes "timeout") (codes "60"))
+
+-- the options for which way records go between two stores
+abbrev pub with_way_rules : App → App
+with_way_rules a =
+    with_rule (with_rule (with_rule a (flag_rule (codes "pull"))) (flag_rule (codes "push"))) (flag_rule (codes "dry-run"))
+
+-- the command that asks another site for what it has
+abbrev pub reconcile_app : App
+reconcile_app =
+    with_quiet_rule (with_site_rules (with_way_rules (with_rule (with_range_rules (folder_app (codes "reconcile")))
+    (flag_rule (codes "undated")))))
+
+-- the command that answers it
+abbrev pub answer_app : App
+answer_app = with_site_rules (with_rule (folder_app (codes "answer")) (flag_rule (codes "read-only")))
+
+-- the command that copies a store
+abbrev pub backup_app : App
+backup_app = with_rule (folder_app (codes "backup")) (required_rule (codes "DEST"))
+
+-- the commands on two stores
+abbrev pub with_site_commands : App → App
+with_site_commands a =
+    with_subcommand (with_subcommand (with_subcommand a reconcile_app.top) answer_app.top) backup_app.top
+
+-- the commands on stores
 abbrev pub with_store_commands : App → App
 with_store_commands a =
-    with_changers (with_subcommand (with_subcommand (with_subcommand a read_app.top) (folder_app (codes "verify")).top)
-    (folder_app (codes "stat")).top)
+    with_site_commands (with_changers (with_subcommand (with_subcommand (with_subcommand a read_app.top)
+    (long_app (codes "verify")).top) (folder_app (codes "stat")).top))
 
 -- the commands that receive records from sockets
 abbrev pub with_receivers : App → App

@@ -3,6 +3,7 @@ pub mod Counts
 pub mod Expiries
 pub mod Heads
 pub mod Names
-pub mod Ranges
+pub mod Reads
 pub mod Requests
+pub mod Sites
 pub mod Tables

@@ -1,6 +1,7 @@
 -- What the words of a command line ask for.
-use Rattle.std.specs.Prelude.{⊤, ℕ, Bool, List, [], ◌∷◌, Some, None, Option, Result, Ok, Err, codes, map, if◌then◌else◌}
+use Rattle.std.specs.Prelude.{◌≡◌, ◌≢◌, ◌&&◌, ◌==◌, ⊤, ℕ, Bool, false, true, not, List, [], ◌∷◌, Some, None, Option, Result, Ok, Err, codes, map, if◌then◌else◌}
 use Rattle.std.specs.Prelude.{option_and_then, option_map}
+use Rattle.std.specs.List.{list_all, list_any}
 use Rattle.std.specs.Str.{bytes_eq}
 use Rattle.clap.specs.Walk.{Text, Row, all_of, first_of}
 use Rattle.clap.specs.Simple.{subcommand_of}
@@ -20,12 +21,12 @@ use Rattle.command_line.specs.Counts.{form_by, keys_in}
 use Rattle.command_line.specs.Expiries.{expire_in}
 use Rattle.command_line.specs.Heads.{hash_in}
 use Rattle.command_line.specs.Names.{period_of}
-use Rattle.command_line.specs.Ranges.{range_in}
+use Rattle.command_line.specs.Reads.{color_in, read_words_in}
+use Rattle.command_line.specs.Sites.{answer_in, reconcile_in}
 use Rattle.condition_words.specs.Conditions.{ConditionsAsked, conditions_asked, conditions_in}
 use Rattle.option_values.specs.Numbers.{number_in, size_in}
 use Rattle.option_values.specs.Readings.{reading_in}
 use Rattle.option_values.specs.Values.{is_given_in, optional}
-use Rattle.archive_sets.specs.declared.range.InRange.{InRange}
 use Rattle.archive_digest.specs.declared.period.Period.{Period}
 use Rattle.server_words.specs.Serves.{ServeAsked, serve_asked, serve_in}
 use Rattle.send_engine.specs.Options.{OptionTexts, texts_of}
@@ -33,23 +34,29 @@ use Rattle.driver.specs.declared.limits.ReadLimit.{ReadLimit}
 use Rattle.driver.specs.declared.limits.ReadLimit.TheVariants.{Standard, Unlimited}
 use Rattle.frame_engine.specs.declared.input_framing.InputFraming.{InputFraming}
 use Rattle.frame_engine.specs.declared.input_framing.InputFraming.TheVariants.{Datagram, Stream}
+use Rattle.command_line.specs.declared.request.AnswerWords.{AnswerWords}
+use Rattle.command_line.specs.declared.request.ColorWhen.{ColorWhen}
 use Rattle.command_line.specs.declared.request.ExpireWords.{ExpireWords}
 use Rattle.command_line.specs.declared.request.FileRequest.{FileRequest}
 use Rattle.command_line.specs.declared.request.FileRequest.TheVariants as files
 use Rattle.command_line.specs.declared.request.FrameCommand.{FrameCommand}
 use Rattle.command_line.specs.declared.request.FrameCommand.TheVariants as frames
 use Rattle.command_line.specs.declared.request.FrameRequest.{FrameRequest}
+use Rattle.command_line.specs.declared.request.ReadWords.{ReadWords}
+use Rattle.command_line.specs.declared.request.ReconcileWords.{ReconcileWords}
 use Rattle.command_line.specs.declared.request.Request.{Request}
 use Rattle.command_line.specs.declared.request.Request.TheVariants as request
 use Rattle.command_line.specs.declared.words.WordsFault.{WordsFault}
-use Rattle.command_line.specs.declared.words.WordsFault.TheVariants.{Usage, Memory}
+use Rattle.command_line.specs.declared.words.WordsFault.TheVariants.{Help, Usage, Memory}
+use Rattle.clap.specs.declared.error.kind.ErrorKind.{ErrorKind}
+use Rattle.clap.specs.declared.error.kind.ErrorKind.TheVariants.{DisplayHelp, DisplayVersion, OutOfMemory}
 
 -- a request, its files by their names
 pub data Asked : Type 0 where
   -- up to a limit of what is read, and whether it ends with a summary
   Check : FrameReading → InputFraming → ReadLimit → Bool → Asked
-  -- and whether it writes JSON
-  Show : FrameReading → InputFraming → ReadLimit → Bool → Asked
+  -- and whether it writes JSON, and when it colors
+  Show : FrameReading → InputFraming → ReadLimit → Bool → ColorWhen → Asked
   Convert : FrameReading → InputFraming → ReadLimit → Option Framing → Asked
   Archive : FrameReading → InputFraming → Asked
   -- with a folder, and MiB of memory
@@ -71,18 +78,22 @@ pub data Asked : Type 0 where
   Send : OptionTexts → Asked
   Collect : CollectWords → Asked
   -- folders
-  Read : Text → InRange → Asked
+  Read : Text → ConditionsAsked → ReadWords → Asked
   Verify : Text → Asked
   Stat : Text → Asked
   Compact : Text → Asked
   Add : Text → Asked
   Expire : Text → ExpireWords → Asked
+  Reconcile : Text → ReconcileWords → Asked
+  Answer : Text → AnswerWords → Asked
+  -- and the folder of the copy
+  Backup : Text → Text → Asked
   Serve : ServeAsked → Asked
 
 -- a command on frames
 abbrev pub frames_by : FrameReading → InputFraming → ReadLimit → FrameCommand → Asked
 frames_by way framing limit (frames.Check summary) = Check way framing limit summary
-frames_by way framing limit (frames.Show json) = Show way framing limit json
+frames_by way framing limit (frames.Show json color) = Show way framing limit json color
 frames_by way framing limit (frames.Convert to) = Convert way framing limit to
 frames_by way framing limit frames.Archive = Archive way framing
 
@@ -112,12 +123,15 @@ asked_by (request.Prove records) = Prove records.now
 asked_by (request.Confirm head records) = Confirm head records.now
 asked_by (request.Send options) = Send (texts_of options)
 asked_by (request.Collect words) = Collect words
-asked_by (request.Read dir range) = Read dir.now range
+asked_by (request.Read dir conditions words) = Read dir.now (conditions_asked conditions) words
 asked_by (request.Verify dir) = Verify dir.now
 asked_by (request.Stat dir) = Stat dir.now
 asked_by (request.Compact dir) = Compact dir.now
 asked_by (request.Add dir) = Add dir.now
 asked_by (request.Expire dir words) = Expire dir.now words
+asked_by (request.Reconcile dir words) = Reconcile dir.now words
+asked_by (request.Answer dir words) = Answer dir.now words
+asked_by (request.Backup dir to) = Backup dir.now to.now
 asked_by (request.Serve words) = Serve (serve_asked words)
 
 -- the framing with this name
@@ -151,8 +165,9 @@ read_check rows =
 -- `show` with the values of its options
 abbrev pub read_show : List Row → Option Asked
 read_show rows =
-    option_and_then (λ input_framing. option_map (λ way. Show way input_framing (limit_in rows) (is_given_in (codes "json") rows))
-    (reading_in rows)) (input_framing_in rows)
+    option_and_then (λ input_framing. option_and_then (λ way. option_map (λ color.
+    Show way input_framing (limit_in rows) (is_given_in (codes "json") rows) color)
+    (color_in rows)) (reading_in rows)) (input_framing_in rows)
 
 -- the framing of an input, as one of frames
 abbrev pub own_framing : InputFraming → Option Framing
@@ -298,7 +313,8 @@ read_collect rows =
 -- `read` with the values of its options
 abbrev pub read_read : List Row → Option Asked
 read_read rows =
-    option_and_then (λ dir. option_map (λ range. Read dir range) (range_in rows)) (first_of (codes "DIR") rows)
+    option_and_then (λ dir. option_and_then (λ conditions. option_map (λ words. Read dir conditions words)
+    (read_words_in rows)) (conditions_in rows)) (first_of (codes "DIR") rows)
 
 -- `verify` with its folder
 abbrev pub read_verify : List Row → Option Asked
@@ -321,15 +337,38 @@ abbrev pub read_expire : List Row → Option Asked
 read_expire rows =
     option_and_then (λ dir. option_map (λ words. Expire dir words) (expire_in rows)) (first_of (codes "DIR") rows)
 
+-- `reconcile` with the values of its options
+abbrev pub read_reconcile : List Row → Option Asked
+read_reconcile rows =
+    option_and_then (λ dir. option_map (λ words. Reconcile dir words) (reconcile_in rows))
+    (first_of (codes "DIR") rows)
+
+-- `answer` with the values of its options
+abbrev pub read_answer : List Row → Option Asked
+read_answer rows =
+    option_and_then (λ dir. option_map (λ words. Answer dir words) (answer_in rows)) (first_of (codes "DIR") rows)
+
+-- `backup` with its folders
+abbrev pub read_backup : List Row → Option Asked
+read_backup rows =
+    option_and_then (λ dir. option_map (λ to. Backup dir to) (first_of (codes "DEST") rows))
+    (first_of (codes "DIR") rows)
+
+-- the request of a command on two stores
+abbrev pub read_sites : Text → List Row → Option Asked
+read_sites name rows =
+    if bytes_eq name (codes "reconcile") then read_reconcile rows
+    else (if bytes_eq name (codes "answer") then read_answer rows
+    else (if bytes_eq name (codes "backup") then read_backup rows else None))
+
 -- the request of a command on a store
 abbrev pub read_store : Text → List Row → Option Asked
 read_store name rows =
-    if bytes_eq name (codes "read") then read_read rows
-    else (if bytes_eq name (codes "verify") then read_verify rows
+    if bytes_eq name (codes "verify") then read_verify rows
     else (if bytes_eq name (codes "stat") then read_stat rows
     else (if bytes_eq name (codes "compact") then read_compact rows
     else (if bytes_eq name (codes "add") then read_add rows
-    else (if bytes_eq name (codes "expire") then read_expire rows else None)))))
+    else (if bytes_eq name (codes "expire") then read_expire rows else read_sites name rows))))
 
 -- `serve` with its values
 abbrev pub read_serve : List Row → Option Asked
@@ -368,7 +407,8 @@ read_of (name, rows) =
     else (if bytes_eq name (codes "union") then read_union rows
     else (if bytes_eq name (codes "select") then read_select rows
     else (if bytes_eq name (codes "count") then read_count rows
-    else (if bytes_eq name (codes "serve") then read_serve rows else read_other name rows))))
+    else (if bytes_eq name (codes "read") then read_read rows
+    else (if bytes_eq name (codes "serve") then read_serve rows else read_other name rows)))))
 
 -- the subcommand with the values of its options, where the parse has no fault
 abbrev pub rows_where : Kinds → Option (Text × List Row) → Option (Text × List Row)
@@ -382,6 +422,15 @@ rows_asked words = rows_where (fault_of line_app words) (subcommand_of line_app 
 -- the request of the words, where they parse and their values are accepted: a function of the words alone
 unfoldable pub parsed : List Text → Option Asked
 parsed words = option_and_then read_of (rows_asked words)
+
+-- the flag `--quiet` of a subcommand
+abbrev pub quiet_by : Option (Text × List Row) → Bool
+quiet_by None = false
+quiet_by (Some (name, rows)) = is_given_in (codes "quiet") rows
+
+-- whether the words ask for nothing to be told of how far it is
+unfoldable pub quiet_asked : List Text → Bool
+quiet_asked words = quiet_by (rows_asked words)
 
 -- the arguments of `collect`, or status 2 where one is refused
 abbrev pub or_fault : Option CollectWords → Result (Option CollectWords) ℕ
@@ -397,7 +446,55 @@ collect_by (Some (name, rows)) = if bytes_eq name (codes "collect") then or_faul
 unfoldable pub collect_asked : List Text → Result (Option CollectWords) ℕ
 collect_asked words = collect_by (rows_asked words)
 
+-- a kind of answer that is asked for: help, or the version
+abbrev pub is_request : ErrorKind → Bool
+is_request DisplayHelp = true
+is_request DisplayVersion = true
+is_request _ = false
+
+-- a word begins with a dash
+abbrev pub is_dashed : Text → Bool
+is_dashed [] = false
+is_dashed (octet ∷ octets) = octet == 45
+
+-- the first word is neither an option nor `help`: it is the name of a command, where the words parse that far
+abbrev pub names_command : List Text → Bool
+names_command [] = false
+names_command (word ∷ words) = not (is_dashed word) && not (bytes_eq word (codes "help"))
+
+-- there are kinds, and each is one that is asked for
+abbrev pub are_requests : Kinds → Bool
+are_requests [] = false
+are_requests (kind ∷ kinds) = is_request kind && list_all is_request kinds
+
+-- the words ask for the help or the version of a command
+unfoldable pub asks_help : List Text → Bool
+asks_help words = are_requests (fault_of line_app words) && names_command words
+
+-- so it may be, of words whose fault may be of several kinds
+unfoldable pub may_ask_help : List Text → Bool
+may_ask_help words = list_any is_request (fault_of line_app words) && names_command words
+
 -- the fault is one of the words, and not of memory
 abbrev pub IsUsage : WordsFault → Type 0
 IsUsage (Usage text) = ⊤
+IsUsage (Help text) = ⊥
 IsUsage Memory = ⊥
+
+-- it is a text that was asked for
+abbrev pub IsHelp : WordsFault → Type 0
+IsHelp (Usage text) = ⊥
+IsHelp (Help text) = ⊤
+IsHelp Memory = ⊥
+
+-- how words are answered that are no request: a text that is asked for is not a fault
+abbrev pub AnswersWords : List Text → WordsFault → Type 0
+AnswersWords words (Usage text) = (parsed words ≡ None) × (asks_help words ≡ false)
+AnswersWords words (Help text) = (parsed words ≡ None) × (may_ask_help words ≡ true)
+AnswersWords words Memory = ⊤
+
+-- the same, by the kind of the error
+abbrev pub AnswersKind : ErrorKind → List Text → WordsFault → Type 0
+AnswersKind kind words (Usage text) = (kind ≢ OutOfMemory) × (is_request kind && names_command words ≡ false)
+AnswersKind kind words (Help text) = (kind ≢ OutOfMemory) × (is_request kind ≡ true) × (names_command words ≡ true)
+AnswersKind kind words Memory = ⊤

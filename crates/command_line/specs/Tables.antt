@@ -1,8 +1,8 @@
 -- What rows of the tables of commands and options make of a command line.
 use Rattle.std.specs.Prelude.{List, [], ◌∷◌}
 use Rattle.clap.specs.Walk.{Rule, Text}
-use Rattle.clap.specs.Simple.{App, new_app, with_rule, with_subcommand}
-use Rattle.command_line.specs.CommandLine.{default_rule, several_rule, flag_rule, list_rule, option_rule, required_rule}
+use Rattle.clap.specs.Simple.{App, with_rule, with_subcommand}
+use Rattle.command_line.specs.CommandLine.{command_app, default_rule, several_rule, flag_rule, list_rule, option_rule, required_rule}
 use Rattle.option_values.specs.declared.option_row.CommandRow.{CommandRow}
 use Rattle.option_values.specs.declared.option_row.Form.{Form}
 use Rattle.option_values.specs.declared.option_row.Form.TheVariants as form
@@ -24,7 +24,7 @@ with_rules a (row ∷ rows) = with_rules (with_rule a (rule_by row.name.now row.
 
 -- the command of a row
 abbrev pub app_by : CommandRow → App
-app_by row = with_rules (new_app row.name.now) row.options.now
+app_by row = with_rules (command_app row.name.now) row.options.now
 
 -- a command line with the commands of these rows
 abbrev pub with_apps : App → List CommandRow → App

@@ -8,6 +8,7 @@ ghost use Rattle.command_line.specs.Requests.{archive_by, asked_by, framing_of, 
 ghost use Rattle.command_line.specs.Requests.{input_framing_of, limit_in, own_framing, read_archive, read_check};
 ghost use Rattle.command_line.specs.Requests.{read_convert, read_show, to_of};
 
+use crate::reading::color_of_matches;
 use crate::request::{FrameCommand, FrameRequest, Request};
 use clap::ArgMatches;
 use driver::ReadLimit;
@@ -125,12 +126,14 @@ pub fn read_show_words<'a>(matches: &ArgMatches<'a>) -> Result<Request<'a>, Refu
 {
     let input_framing = input_framing_of_matches(matches)?;
     let reading = reading_of_matches(matches)?;
+    let color = color_of_matches(matches)?;
     Ok(Request::Frames(FrameRequest {
         input_framing,
         limit: read_limit(matches),
         reading,
         command: FrameCommand::Show {
             json: is_given(matches, JSON.name),
+            color,
         },
     }))
 }

@@ -10,13 +10,19 @@ mod file_words;
 mod frame_words;
 mod line;
 mod proof_words;
+mod reading;
 mod request;
 mod select_words;
 mod send_words;
 mod serving;
+mod site_words;
 mod store_words;
+mod tips;
 mod words;
 
 pub use collecting::collect_words;
-pub use request::{ExpireBound, ExpireWords, FileRequest, FrameCommand, FrameRequest, Request};
+pub use request::{
+    AnswerWords, ColorWhen, ExpireBound, ExpireWords, FileRequest, FrameCommand, FrameRequest,
+    Invocation, ReadForm, ReadWords, ReconcileWay, ReconcileWords, Request,
+};
 pub use words::{WordsFault, read_words};

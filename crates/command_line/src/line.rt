@@ -4,7 +4,7 @@ ghost use Rattle.std.specs.Prelude.{◌≡◌, codes, false, IfOk};
 ghost use Rattle.clap.specs.Words.{app_of, rule_of};
 ghost use Rattle.clap.specs.Simple.{new_app, with_rule, with_subcommand};
 ghost use Rattle.clap.specs.declared.builder.command.Command.TheViews.{out-Command as fields_of};
-ghost use Rattle.command_line.specs.CommandLine.{empty_app, line_app, option_rule};
+ghost use Rattle.command_line.specs.CommandLine.{command_app, empty_app, line_app, option_rule};
 ghost use Rattle.command_line.specs.Tables.{app_by, rule_by, with_apps, with_rules};
 
 use clap::{Arg, ArgAction, Command};
@@ -13,7 +13,7 @@ use option_values::{CommandRow, FILES_MAX, Form, OptionRow};
 use std::alloc::{AllocError, Global};
 
 // What `--version` tells beside the program's name.
-const VERSION: &str = "0.9.0";
+const VERSION: &str = "0.11.0";
 
 // An option that takes a value.
 fn single<'a>(alloc: Global, name: &'a str) -> Arg<'a>
@@ -82,12 +82,12 @@ fn with_options<'a>(
     Ok(command)
 }
 
-// A command with its help text, and no options yet.
+// A command with its help text and the version, and no options yet.
 fn new_command<'a>(alloc: Global, name: &'a str, about: &'a str) -> Command<'a>
-    ensures app { app_of result ≡ new_app name.entry.now }
+    ensures app { app_of result ≡ command_app name.entry.now }
     ensures local { (fields_of result).has_globals ≡ false }
 {
-    Command::new(alloc, name).about(about)
+    Command::new(alloc, name).about(about).version(VERSION)
 }
 
 // The command of a row.

@@ -13,6 +13,17 @@ use syslog_frame::Framing;
 use syslog_legacy::FrameReading;
 use syslog_value::Instant;
 
+/// When the fields of a record are colored by its severity.
+#[derive(Clone, Copy, Debug, PartialEq, Eq)]
+pub enum ColorWhen {
+    /// On a terminal.
+    Auto,
+    /// Always.
+    Always,
+    /// Never.
+    Never,
+}
+
 /// What is done with the frames of standard input.
 #[derive(Clone, Copy, Debug, PartialEq, Eq)]
 pub enum FrameCommand {
@@ -20,7 +31,7 @@ pub enum FrameCommand {
     /// legacy packets.
     Check { summary: bool },
     /// `show`: the fields of each record, one line each, or the record as one line of JSON.
-    Show { json: bool },
+    Show { json: bool, color: ColorWhen },
     /// `convert`: the canonical octets of each record, in a framing, or bare if there is none.
     Convert { to: Option<Framing> },
     /// `archive`: the records of the input, as an archive.
@@ -77,6 +88,92 @@ pub struct ExpireWords {
     pub dry_run: bool,
 }
 
+/// Which way records cross between a store and that of another site.
+#[derive(Clone, Copy, Debug, PartialEq, Eq)]
+pub enum ReconcileWay {
+    /// Each store gets what it lacks.
+    Both,
+    /// This store gets what it lacks, and the other one nothing.
+    Pull,
+    /// The other store gets what it lacks, and this one nothing.
+    Push,
+}
+
+impl ReconcileWay {
+    ghost use Rattle.std.specs.Prelude.{◌≡◌};
+    ghost use Rattle.command_line.specs.Sites.{pulls, pushes};
+
+    /// Whether this store gets what it lacks.
+    pub fn pulls(self) -> bool
+        ensures { result ≡ pulls self }
+    {
+        match self {
+            ReconcileWay::Both | ReconcileWay::Pull => true,
+            ReconcileWay::Push => false,
+        }
+    }
+
+    /// Whether the other store gets what it lacks.
+    pub fn pushes(self) -> bool
+        ensures { result ≡ pushes self }
+    {
+        match self {
+            ReconcileWay::Both | ReconcileWay::Push => true,
+            ReconcileWay::Pull => false,
+        }
+    }
+}
+
+/// What `reconcile` compares, and what it does then.
+#[derive(Clone, Copy, Debug, PartialEq, Eq)]
+pub struct ReconcileWords {
+    /// Which records are compared.
+    pub range: InRange,
+    /// Which way those cross that only one side has.
+    pub way: ReconcileWay,
+    /// Whether the stores are only compared, and stay as they are.
+    pub dry_run: bool,
+    /// How many MiB of records are got in all, 1 to 1,048,576.
+    pub room_mib: u32,
+    /// After how many seconds of silence from the other side it fails, 1 to 86,400.
+    pub timeout_seconds: u32,
+}
+
+/// What `answer` allows the other site.
+#[derive(Clone, Copy, Debug, PartialEq, Eq)]
+pub struct AnswerWords {
+    /// Whether the store takes no records.
+    pub read_only: bool,
+    /// How many MiB of records it takes in all, 1 to 1,048,576.
+    pub room_mib: u32,
+    /// After how many seconds of silence from the other side it fails, 1 to 86,400.
+    pub timeout_seconds: u32,
+}
+
+/// What is written of the records that a store holds.
+#[derive(Clone, Copy, Debug, PartialEq, Eq)]
+pub enum ReadForm {
+    /// Their archive.
+    Archive,
+    /// Their canonical octets, one record a line.
+    Lines,
+    /// One JSON object a line.
+    Json,
+    /// Their fields, as `show` writes them.
+    Show,
+}
+
+/// Which of the records that meet the conditions `read` writes, and how.
+#[derive(Clone, Copy, Debug, PartialEq, Eq)]
+pub struct ReadWords {
+    /// Only the last so many of them, 1 to 1,000,000.
+    pub last: Option<u32>,
+    /// What is written of them.
+    pub form: ReadForm,
+    /// When their fields are colored.
+    pub color: ColorWhen,
+}
+
 /// What the words of a command line ask for. Names of files and folders are lent by the words.
 #[derive(Debug, Drop)]
 pub enum Request<'a> {
@@ -124,10 +221,11 @@ pub enum Request<'a> {
     Collect {
         words: CollectWords,
     },
-    /// `read`: the archive of the records in a range of time that the store in a folder holds.
+    /// `read`: the records that the store in a folder holds and that meet these conditions.
     Read {
         dir: &'a str,
-        range: InRange,
+        conditions: Conditions<'a>,
+        words: ReadWords,
     },
     /// `verify`: what is damaged in a store, one line each.
     Verify {
@@ -150,8 +248,34 @@ pub enum Request<'a> {
         dir: &'a str,
         words: ExpireWords,
     },
+    /// `reconcile`: a store and that of another site, over standard input and output, come to hold the
+    /// same records.
+    Reconcile {
+        dir: &'a str,
+        words: ReconcileWords,
+    },
+    /// `answer`: the other side of `reconcile`.
+    Answer {
+        dir: &'a str,
+        words: AnswerWords,
+    },
+    /// `backup`: all that a store holds, copied into a folder that is empty or missing.
+    Backup {
+        dir: &'a str,
+        /// The folder of the copy.
+        to: &'a str,
+    },
     /// `serve`: the records that come to sockets, into a store.
     Serve {
         words: ServeWords<'a>,
     },
+}
+
+/// What the words of a command line ask for, and how it is done.
+#[derive(Debug, Drop)]
+pub struct Invocation<'a> {
+    /// What they ask for.
+    pub request: Request<'a>,
+    /// Whether nothing is told of how far it is.
+    pub is_quiet: bool,
 }

@@ -1,13 +1,15 @@
 -- What a run of each command does, whatever the devices do.
 use Rattle.std.specs.Prelude.{◌≡◌, ◌⊎◌, ℕ, List, [], ◌∷◌, Option, Bool, true, false, IfSome, IsSome, codes, string_bytes}
 use Rattle.octet_devices.specs.Device.{InputState, OutputState}
-use Rattle.driver.specs.Devices.{Devices, Reports, devices}
+use Rattle.octet_devices.specs.Transfers.{WroteAll}
+use Rattle.driver.specs.Devices.{Devices, OutputFailed, Reports, devices}
 use Rattle.driver.specs.Run.{RanWithin, WritesPrefix, limits_by}
 use Rattle.driver.specs.Sessions.{Meaning}
 use Rattle.driver.specs.declared.limits.ReadLimit.{ReadLimit}
 use Rattle.driver.specs.declared.limits.ReadLimit.TheVariants.{Standard}
-use Rattle.driver.specs.declared.status.TheConstants.{FAULT, NO_MEMORY}
+use Rattle.driver.specs.declared.status.TheConstants.{DONE, FAULT, NO_MEMORY}
 use Rattle.syslog_legacy.specs.declared.frame_reading.FrameReading.{FrameReading}
+use Rattle.colored_show.specs.Handling.{colored_handling}
 use Rattle.frame_engine.specs.Checked.{check_handling, refused_line}
 use Rattle.frame_engine.specs.Converted.{convert_handling, noted_line}
 use Rattle.frame_engine.specs.Handling.{Handling, nothing_at_end}
@@ -21,11 +23,14 @@ use Rattle.archive_engine.specs.Migrated.{RanMigrate}
 use Rattle.archive_sets.specs.Together.{MeetsAll}
 use Rattle.archive_sets.specs.declared.conditions.Conditions.{Conditions}
 use Rattle.condition_words.specs.Conditions.{ConditionsAsked, conditions_asked}
-use Rattle.command_line.specs.Requests.{Add, Archive, Asked, Check, Collect, Common, Compact, Confirm, Convert, Count}
-use Rattle.command_line.specs.Requests.{Diff, Digest, Expire, Merge, Migrate, Minus, Prove, Read, Root, Select, Send}
-use Rattle.command_line.specs.Requests.{Serve, Show, SpillArchive, Stat, Union, Verify}
+use Rattle.command_line.specs.Requests.{Add, Answer, Archive, Asked, Backup, Check, Collect, Common, Compact}
+use Rattle.command_line.specs.Requests.{Confirm, Convert, Count, Diff, Digest, Expire, Merge, Migrate, Minus, Prove}
+use Rattle.command_line.specs.Requests.{Read, Reconcile, Root, Select, Send, Serve, Show, SpillArchive, Stat, Union}
+use Rattle.command_line.specs.Requests.{Verify}
+use Rattle.command_line.specs.declared.request.ColorWhen.{ColorWhen}
+use Rattle.command_line.specs.declared.request.ColorWhen.TheVariants.{Always, Auto, Never}
 use Rattle.command_line.specs.declared.words.WordsFault.{WordsFault}
-use Rattle.command_line.specs.declared.words.WordsFault.TheVariants.{Usage, Memory as OutOfMemory}
+use Rattle.command_line.specs.declared.words.WordsFault.TheVariants.{Help, Usage, Memory as OutOfMemory}
 use Rattle.send_engine.specs.Sending.{RanSend}
 use Rattle.proof_engine.specs.Rooted.{RanRoot}
 use Rattle.archive_counts.specs.declared.options.CountForm.{CountForm}
@@ -74,10 +79,16 @@ abbrev pub RanWithout : List ℕ → OutputState → OutputState → OutputState
 RanWithout line w w_new n n_new status =
     RanOut w w_new n n_new status ⊎ ((w_new ≡ w) × Reports line FAULT n n_new status)
 
+-- what is written of the fields of a record: colored, where that is always asked for
+abbrev pub fields_by : FrameReading → ColorWhen → Handling
+fields_by way Always = colored_handling way
+fields_by way Auto = show_handling way
+fields_by way Never = show_handling way
+
 -- what `show` does with each frame: with `--json` it writes a line of JSON
-abbrev pub show_by : FrameReading → Bool → Handling
-show_by way true = show_json_handling way
-show_by way false = show_handling way
+abbrev pub show_by : FrameReading → Bool → ColorWhen → Handling
+show_by way true color = show_json_handling way
+show_by way false color = fields_by way color
 
 -- what is selected by these conditions of the archive on the input; or memory ran out before it was read
 abbrev pub RanSelectBy : ConditionsAsked → Devices → Devices → ℕ → Type 0
@@ -97,8 +108,8 @@ RanCountBy keys top form old new status =
 abbrev pub RanAs : Asked → Stored → Devices → Devices → ℕ → Type 0
 RanAs (Check way framing limit summary) stored old new status =
     RanInputWithin limit (handler_meaning (check_handling way) refused_line (check_end way summary) framing) old new status
-RanAs (Show way framing limit json) stored old new status =
-    RanInputWithin limit (handler_meaning (show_by way json) noted_line nothing_at_end framing) old new status
+RanAs (Show way framing limit json color) stored old new status =
+    RanInputWithin limit (handler_meaning (show_by way json color) noted_line nothing_at_end framing) old new status
 RanAs (Convert way framing limit to) stored old new status =
     RanInputWithin limit (handler_meaning (convert_handling way to) noted_line nothing_at_end framing) old new status
 RanAs (Archive way framing) stored old new status = RanInput (archive_meaning way framing) old new status
@@ -124,7 +135,7 @@ RanAs (Send texts) stored old new status =
     RanSend texts old.output new.output old.diagnostics new.diagnostics status
 RanAs (SpillArchive way framing dir memory) stored old new status =
     RanWithout (codes "spill fault\n") old.output new.output old.diagnostics new.diagnostics status
-RanAs (Read dir range) stored old new status =
+RanAs (Read dir conditions words) stored old new status =
     RanWithout (codes "store fault\n") old.output new.output old.diagnostics new.diagnostics status
 RanAs (Verify dir) stored old new status =
     RanWithout (codes "store fault\n") old.output new.output old.diagnostics new.diagnostics status
@@ -136,6 +147,12 @@ RanAs (Add dir) stored old new status =
     RanWithout (codes "store fault\n") old.output new.output old.diagnostics new.diagnostics status
 RanAs (Expire dir words) stored old new status =
     RanWithout (codes "store fault\n") old.output new.output old.diagnostics new.diagnostics status
+RanAs (Reconcile dir words) stored old new status =
+    RanWithout (codes "store fault\n") old.output new.output old.diagnostics new.diagnostics status
+RanAs (Answer dir words) stored old new status =
+    RanWithout (codes "store fault\n") old.output new.output old.diagnostics new.diagnostics status
+RanAs (Backup dir to) stored old new status =
+    RanWithout (codes "store fault\n") old.output new.output old.diagnostics new.diagnostics status
 RanAs (Collect words) stored old new status =
     RanWithout (codes "socket fault\n") old.output new.output old.diagnostics new.diagnostics status
 RanAs (Serve words) stored old new status =
@@ -144,7 +161,7 @@ RanAs (Serve words) stored old new status =
 -- the commands of a run that read the standard input
 abbrev pub ReadsInput : Asked → Type 0
 ReadsInput (Check way framing limit summary) = Unit {0}
-ReadsInput (Show way framing limit json) = Unit {0}
+ReadsInput (Show way framing limit json color) = Unit {0}
 ReadsInput (Convert way framing limit to) = Unit {0}
 ReadsInput (Archive way framing) = Unit {0}
 ReadsInput (Merge left right) = ⊥
@@ -161,12 +178,15 @@ ReadsInput (Confirm head records) = Unit {0}
 ReadsInput (Migrate file) = ⊥
 ReadsInput (Send texts) = ⊥
 ReadsInput (SpillArchive way framing dir memory) = ⊥
-ReadsInput (Read dir range) = ⊥
+ReadsInput (Read dir conditions words) = ⊥
 ReadsInput (Verify dir) = ⊥
 ReadsInput (Stat dir) = ⊥
 ReadsInput (Compact dir) = ⊥
 ReadsInput (Add dir) = ⊥
 ReadsInput (Expire dir words) = ⊥
+ReadsInput (Reconcile dir words) = ⊥
+ReadsInput (Answer dir words) = ⊥
+ReadsInput (Backup dir to) = ⊥
 ReadsInput (Collect words) = ⊥
 ReadsInput (Serve words) = ⊥
 
@@ -176,7 +196,21 @@ TellsUsage n n_new status =
     ((text : List ℕ) × Reports text FAULT n n_new status)
     ⊎ Reports (codes "want of memory\n") NO_MEMORY n n_new status
 
--- why arguments are no request is told
-abbrev pub TellsWordsFault : WordsFault → OutputState → OutputState → ℕ → Type 0
-TellsWordsFault (Usage text) n n_new status = Reports (string_bytes text) FAULT n n_new status
-TellsWordsFault OutOfMemory n n_new status = Reports (codes "want of memory\n") NO_MEMORY n n_new status
+-- the text that is asked for goes to the output, or it is told that it could not be written
+abbrev pub WritesHelp : List ℕ → OutputState → OutputState → OutputState → OutputState → ℕ → Type 0
+WritesHelp text w w_new n n_new status =
+    (WroteAll w w_new text × (n_new ≡ n) × (status ≡ DONE))
+    ⊎ (OutputFailed w w_new × Reports (codes "write fault\n") FAULT n n_new status)
+
+-- so of some text, unless memory ran out
+abbrev pub TellsHelp : OutputState → OutputState → OutputState → OutputState → ℕ → Type 0
+TellsHelp w w_new n n_new status =
+    ((text : List ℕ) × WritesHelp text w w_new n n_new status)
+    ⊎ ((w_new ≡ w) × Reports (codes "want of memory\n") NO_MEMORY n n_new status)
+
+-- how arguments are answered that are no request
+abbrev pub TellsWordsFault : WordsFault → OutputState → OutputState → OutputState → OutputState → ℕ → Type 0
+TellsWordsFault (Usage text) w w_new n n_new status = (w_new ≡ w) × Reports (string_bytes text) FAULT n n_new status
+TellsWordsFault (Help text) w w_new n n_new status = WritesHelp (string_bytes text) w w_new n n_new status
+TellsWordsFault OutOfMemory w w_new n n_new status =
+    (w_new ≡ w) × Reports (codes "want of memory\n") NO_MEMORY n n_new status

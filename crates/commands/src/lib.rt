@@ -12,4 +12,4 @@ mod running;
 
 pub use files::Files;
 pub use memory::{MemoryFile, MemoryFiles};
-pub use running::{report_words_fault, run, run_request};
+pub use running::{answer_words_fault, run, run_request};

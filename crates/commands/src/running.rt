@@ -1,6 +1,6 @@
 //! The program over any devices and files.
 
-ghost use Rattle.std.specs.Prelude.{◌≡◌, Some, None, map, string_bytes};
+ghost use Rattle.std.specs.Prelude.{◌≡◌, Some, None, false, map, string_bytes, true};
 ghost use Rattle.driver.specs.Devices.{devices};
 ghost use Rattle.driver.specs.Run.{RanWithin, limits_by};
 ghost use Rattle.frame_engine.specs.Checked.{check_handling, refused_line};
@@ -9,19 +9,23 @@ ghost use Rattle.frame_engine.specs.Handling.{nothing_at_end};
 ghost use Rattle.frame_engine.specs.Sessions.{handler_meaning};
 ghost use Rattle.frame_engine.specs.Summaries.{check_end};
 ghost use Rattle.octet_devices.specs.Device.{InputState};
-ghost use Rattle.command_line.specs.Requests.{Asked, asked_by, files_asked, frames_asked, parsed};
-ghost use Rattle.commands.specs.Runs.{RanAs, RanMergeFiles, RanMigrateFile, ReadsInput, TellsUsage};
-ghost use Rattle.commands.specs.Runs.{TellsWordsFault, show_by};
+ghost use Rattle.command_line.specs.Requests.{Asked, IsHelp, asked_by, asks_help, files_asked, frames_asked};
+ghost use Rattle.command_line.specs.Requests.{may_ask_help, parsed};
+ghost use Rattle.commands.specs.Runs.{RanAs, RanMergeFiles, RanMigrateFile, ReadsInput, TellsHelp, TellsUsage};
+ghost use Rattle.commands.specs.Runs.{TellsWordsFault, WritesHelp, fields_by, show_by};
 ghost use Rattle.commands.specs.Stored.{Stored};
 
 use crate::files::Files;
 use crate::joining::join_files;
 use crate::proving::{confirm_file, prove_file};
 use archive_engine::{archive_input, merge_archives, migrate_archive};
-use command_line::{FileRequest, FrameCommand, FrameRequest, Request, WordsFault, read_words};
-use driver::{FAULT, NO_MEMORY, report};
+use colored_show::ColoredShow;
+use command_line::{
+    ColorWhen, FileRequest, FrameCommand, FrameRequest, Invocation, Request, WordsFault, read_words,
+};
+use driver::{DONE, FAULT, NO_MEMORY, report};
 use frame_engine::{Check, CheckSummary, Convert, FrameSource, Show, ShowJson, Tally, scan_source};
-use octet_devices::{Input, Output};
+use octet_devices::{Input, Output, write_all};
 use proof_engine::root_archive;
 use send_engine::send_text;
 use set_engine::{Combination, count_archive, digest_archive, select_archive};
@@ -66,13 +70,32 @@ fn migrate_file<W: Output, N: Output, F: Files>(
     migrate_archive(alloc, &mut old, output, diagnostics)
 }
 
-/// Reports why the arguments are no request, and returns the exit status: `FAULT`, or `NO_MEMORY`
-/// if memory ran out.
-pub fn report_words_fault<N: Output>(fault: &WordsFault, diagnostics: &mut N) -> u8
-    ensures { TellsWordsFault fault.now (N.state diagnostics.old) (N.state diagnostics.new) result }
+// Writes the text that is asked for.
+fn write_help<W: Output, N: Output>(text: &[u8], output: &mut W, diagnostics: &mut N) -> u8
+    ensures { WritesHelp text.now (W.state output.old) (W.state output.new)
+        (N.state diagnostics.old) (N.state diagnostics.new) result }
+{
+    match write_all(output, text) {
+        Ok(()) => DONE,
+        Err(_) => report(diagnostics, b"write fault\n", FAULT),
+    }
+}
+
+/// Answers arguments that are no request, and returns the exit status: `DONE` if they ask for the help
+/// or the version of a command, which goes to the output; else `FAULT`, or `NO_MEMORY` if memory ran
+/// out, and the diagnostics say why.
+pub fn answer_words_fault<W: Output, N: Output>(
+    fault: &WordsFault,
+    output: &mut W,
+    diagnostics: &mut N,
+) -> u8
+    ensures tells { TellsWordsFault fault.now (W.state output.old) (W.state output.new)
+        (N.state diagnostics.old) (N.state diagnostics.new) result }
+    ensures kept { ¬ (IsHelp fault.now) → output.new ≡ output.old }
 {
     match fault {
         WordsFault::Usage(text) => report(diagnostics, text.as_bytes(), FAULT),
+        WordsFault::Help(text) => write_help(text.as_bytes(), output, diagnostics),
         WordsFault::Memory => report(diagnostics, b"want of memory\n", NO_MEMORY),
     }
 }
@@ -104,18 +127,48 @@ fn check_input<R: Input, W: Output, N: Output>(
     scan_source(alloc, source, check, input, output, diagnostics)
 }
 
+// Writes the fields of each record, in color where that is always asked for.
+fn show_fields<R: Input, W: Output, N: Output>(
+    alloc: Global,
+    source: FrameSource,
+    reading: FrameReading,
+    color: ColorWhen,
+    input: &mut R,
+    output: &mut W,
+    diagnostics: &mut N,
+) -> u8
+    ensures { RanWithin (limits_by source.limit)
+        (handler_meaning (fields_by reading color) noted_line nothing_at_end source.framing)
+        (devices (R.state input.old) (W.state output.old) (N.state diagnostics.old))
+        (devices (R.state input.new) (W.state output.new) (N.state diagnostics.new)) result }
+{
+    match color {
+        ColorWhen::Always => {
+            let show = ColoredShow {
+                show: Show { alloc, reading },
+            };
+            scan_source(alloc, source, show, input, output, diagnostics)
+        }
+        ColorWhen::Auto | ColorWhen::Never => {
+            let show = Show { alloc, reading };
+            scan_source(alloc, source, show, input, output, diagnostics)
+        }
+    }
+}
+
 // Writes the fields of each record, or each record as a line of JSON.
 fn show_input<R: Input, W: Output, N: Output>(
     alloc: Global,
     source: FrameSource,
     reading: FrameReading,
     json: bool,
+    color: ColorWhen,
     input: &mut R,
     output: &mut W,
     diagnostics: &mut N,
 ) -> u8
     ensures { RanWithin (limits_by source.limit)
-        (handler_meaning (show_by reading json) noted_line nothing_at_end source.framing)
+        (handler_meaning (show_by reading json color) noted_line nothing_at_end source.framing)
         (devices (R.state input.old) (W.state output.old) (N.state diagnostics.old))
         (devices (R.state input.new) (W.state output.new) (N.state diagnostics.new)) result }
 {
@@ -123,8 +176,7 @@ fn show_input<R: Input, W: Output, N: Output>(
         let show = ShowJson { alloc, reading };
         return scan_source(alloc, source, show, input, output, diagnostics);
     }
-    let show = Show { alloc, reading };
-    scan_source(alloc, source, show, input, output, diagnostics)
+    show_fields(alloc, source, reading, color, input, output, diagnostics)
 }
 
 // Does what is asked for with the frames of the standard input.
@@ -153,8 +205,17 @@ fn run_on_frames<R: Input, W: Output, N: Output>(
         FrameCommand::Check { summary } => {
             check_input(alloc, source, reading, summary, input, output, diagnostics)
         }
-        FrameCommand::Show { json } => {
-            show_input(alloc, source, reading, json, input, output, diagnostics)
+        FrameCommand::Show { json, color } => {
+            show_input(
+                alloc,
+                source,
+                reading,
+                json,
+                color,
+                input,
+                output,
+                diagnostics,
+            )
         }
         FrameCommand::Convert { to } => {
             let convert = Convert { alloc, reading, to };
@@ -204,8 +265,9 @@ fn run_on_files<W: Output, N: Output, F: Files>(
 
 /// Does what a request asks for and returns the exit status: 0 done, 1 something was refused, 2 a
 /// device failed, 3 out of memory. Records go to the output, reports of what went wrong to the
-/// diagnostics. Commands that need sockets, a store or room on a disk, which only a program has,
-/// are a fault here.
+/// diagnostics. Nothing is known of a terminal, so records are colored only where that is asked for
+/// always. Commands that need sockets, a store or room on a disk, which only a program has, are a
+/// fault here.
 pub fn run_request<R: Input, W: Output, N: Output, F: Files>(
     alloc: Global,
     request: Request<'_>,
@@ -245,6 +307,9 @@ pub fn run_request<R: Input, W: Output, N: Output, F: Files>(
         Request::Compact { .. } => report(diagnostics, b"store fault\n", FAULT),
         Request::Add { .. } => report(diagnostics, b"store fault\n", FAULT),
         Request::Expire { .. } => report(diagnostics, b"store fault\n", FAULT),
+        Request::Reconcile { .. } => report(diagnostics, b"store fault\n", FAULT),
+        Request::Answer { .. } => report(diagnostics, b"store fault\n", FAULT),
+        Request::Backup { .. } => report(diagnostics, b"store fault\n", FAULT),
         Request::Collect { .. } => report(diagnostics, b"socket fault\n", FAULT),
         Request::Serve { .. } => report(diagnostics, b"socket fault\n", FAULT),
     }
@@ -255,8 +320,9 @@ pub fn run_request<R: Input, W: Output, N: Output, F: Files>(
 /// program's name.
 ///
 /// Records go to the output, reports of what went wrong to the diagnostics. If the arguments are no
-/// request, or ask for help, a text goes to the diagnostics and the status is 2; it is 3 if there
-/// is no memory for the text.
+/// request, or ask for the program's help or version, a text goes to the diagnostics and the status
+/// is 2. The help and the version of a command go to the output, and the status is 0. It is 3 if
+/// there is no memory for the text.
 pub fn run<R: Input, W: Output, N: Output, F: Files>(
     alloc: Global,
     args: &[String],
@@ -277,11 +343,26 @@ pub fn run<R: Input, W: Output, N: Output, F: Files>(
 
     // arguments that are no request: nothing is touched but the diagnostics
     ensures usage { parsed (map string_bytes args.now) ≡ None →
+        may_ask_help (map string_bytes args.now) ≡ false →
         TellsUsage (N.state diagnostics.old) (N.state diagnostics.new) result
-        × (output.new ≡ output.old) × (input.new ≡ input.old) × (files.new ≡ files.old) }
+        × (output.new ≡ output.old) }
+
+    // the help of a command goes to the output
+    ensures help { asks_help (map string_bytes args.now) ≡ true →
+        TellsHelp (W.state output.old) (W.state output.new) (N.state diagnostics.old)
+        (N.state diagnostics.new) result }
+
+    ensures untouched { parsed (map string_bytes args.now) ≡ None →
+        (input.new ≡ input.old) × (files.new ≡ files.old) }
 {
     match read_words(alloc, args) {
-        Ok(request) => run_request(alloc, request, input, output, diagnostics, files),
-        Err(fault) => report_words_fault(&fault, diagnostics),
+        Ok(invocation) => {
+            let Invocation {
+                request,
+                is_quiet: _,
+            } = invocation;
+            run_request(alloc, request, input, output, diagnostics, files)
+        }
+        Err(fault) => answer_words_fault(&fault, output, diagnostics),
     }
 }

@@ -2,21 +2,21 @@
 
 use crate::option_row::CommandRow;
 use crate::options::{
-    ALLOW, APP, APP_LIKE, BARS, BEFORE, CHECKPOINT, COMMIT, CONNECTIONS, COUNT, COUNTED,
-    COUNTS_JSON, DIALECT, DIR, DRY_RUN, ENDLESS, EXPIRE_UNDATED, FACILITY, FILES, FRAMING, FROM,
-    HEAD_HASH, HEAD_SIZE, HOST, HOST_LIKE, ID, IDLE, INHERITED, JSON, KEEP, KEYS, LEFT, LEGACY, LF,
-    MEMORY, MESSAGE, MICROS, MSGID, NEW_DIR, NOT_APP, NOT_HOST, NOT_MESSAGE, OLD_FILE,
-    ONLY_UNDATED, OUTPUT_FRAMING, PER_PEER, PERIOD, PORT, PROC, RECORD_MESSAGE, RECORDS, RIGHT,
-    SENT_APP, SENT_FACILITY, SENT_FRAMING, SENT_HOST, SENT_MSGID, SENT_PROC, SENT_SEVERITY,
-    SEVERITY, SPILL, SUMMARY, TOP, TRANSPORT, TRIM, UDP, UNDATED, UNIX, UNTIL, UNTIL_EOF, UP_TO,
-    ZONE,
+    ALLOW, APP, APP_LIKE, BARS, BEFORE, CHECKPOINT, COLOR, COMMIT, COMPARE_ALONE, CONNECTIONS,
+    COPY_DIR, COUNT, COUNTED, COUNTS_JSON, DIALECT, DIR, DRY_RUN, ENDLESS, EXPIRE_UNDATED,
+    FACILITY, FILES, FRAMING, FROM, HEAD_HASH, HEAD_SIZE, HOST, HOST_LIKE, ID, IDLE, INHERITED,
+    JSON, KEEP, KEYS, LAST, LEFT, LEGACY, LF, MEMORY, MESSAGE, MICROS, MSGID, NEW_DIR, NOT_APP,
+    NOT_HOST, NOT_MESSAGE, OLD_FILE, ONLY_UNDATED, OUTPUT_FRAMING, PER_PEER, PERIOD, PORT, PROC,
+    PULL, PUSH, QUIET, READ_FORM, READ_ONLY, RECORD_MESSAGE, RECORDS, RIGHT, ROOM, SENT_APP,
+    SENT_FACILITY, SENT_FRAMING, SENT_HOST, SENT_MSGID, SENT_PROC, SENT_SEVERITY, SEVERITY, SPILL,
+    SUMMARY, TIMEOUT, TOP, TRANSPORT, TRIM, UDP, UNDATED, UNIX, UNTIL, UNTIL_EOF, UP_TO, ZONE,
 };
 
 /// `show`.
 pub const SHOW_COMMAND: CommandRow = CommandRow {
     name: "show",
     about: "Write the fields of each record",
-    options: &[FRAMING, TRIM, LEGACY, ZONE, DIALECT, ENDLESS, JSON],
+    options: &[FRAMING, TRIM, LEGACY, ZONE, DIALECT, ENDLESS, JSON, COLOR],
 };
 
 /// `check`.
@@ -45,49 +45,49 @@ pub const CONVERT_COMMAND: CommandRow = CommandRow {
 pub const ARCHIVE_COMMAND: CommandRow = CommandRow {
     name: "archive",
     about: "Write the records as an archive: each once, in its canonical form, in one order",
-    options: &[FRAMING, TRIM, LEGACY, ZONE, DIALECT, SPILL, MEMORY],
+    options: &[FRAMING, TRIM, LEGACY, ZONE, DIALECT, SPILL, MEMORY, QUIET],
 };
 
 /// `merge`.
 pub const MERGE_COMMAND: CommandRow = CommandRow {
     name: "merge",
     about: "Write the archive of the records of two archives",
-    options: &[LEFT, RIGHT],
+    options: &[LEFT, RIGHT, QUIET],
 };
 
 /// `migrate`.
 pub const MIGRATE_COMMAND: CommandRow = CommandRow {
     name: "migrate",
     about: "Write the archive of the records of an old one, whose elements are in the order in which they came",
-    options: &[OLD_FILE],
+    options: &[OLD_FILE, QUIET],
 };
 
 /// `union`.
 pub const UNION_COMMAND: CommandRow = CommandRow {
     name: "union",
     about: "Write the archive of the records of one or more archives",
-    options: &[FILES],
+    options: &[FILES, QUIET],
 };
 
 /// `common`.
 pub const COMMON_COMMAND: CommandRow = CommandRow {
     name: "common",
     about: "Write the archive of the records that two archives both have",
-    options: &[LEFT, RIGHT],
+    options: &[LEFT, RIGHT, QUIET],
 };
 
 /// `minus`.
 pub const MINUS_COMMAND: CommandRow = CommandRow {
     name: "minus",
     about: "Write the archive of the records of one archive that another lacks",
-    options: &[LEFT, RIGHT],
+    options: &[LEFT, RIGHT, QUIET],
 };
 
 /// `diff`.
 pub const DIFF_COMMAND: CommandRow = CommandRow {
     name: "diff",
     about: "Write a line for each record that only one of two archives has",
-    options: &[LEFT, RIGHT],
+    options: &[LEFT, RIGHT, QUIET],
 };
 
 /// `select`.
@@ -112,6 +112,7 @@ pub const SELECT_COMMAND: CommandRow = CommandRow {
         NOT_HOST,
         NOT_APP,
         NOT_MESSAGE,
+        QUIET,
     ],
 };
 
@@ -119,28 +120,28 @@ pub const SELECT_COMMAND: CommandRow = CommandRow {
 pub const DIGEST_COMMAND: CommandRow = CommandRow {
     name: "digest",
     about: "Write a line for each period of an archive: its records, octets and SHA-256",
-    options: &[PERIOD],
+    options: &[PERIOD, QUIET],
 };
 
 /// `count`.
 pub const COUNT_COMMAND: CommandRow = CommandRow {
     name: "count",
     about: "Write how many records of an archive have each value of some fields or times",
-    options: &[KEYS, TOP, COUNTS_JSON, BARS],
+    options: &[KEYS, TOP, COUNTS_JSON, BARS, QUIET],
 };
 
 /// `root`.
 pub const ROOT_COMMAND: CommandRow = CommandRow {
     name: "root",
     about: "Write how many records an archive has, and their Merkle tree hash (RFC 9162)",
-    options: &[],
+    options: &[QUIET],
 };
 
 /// `prove`.
 pub const PROVE_COMMAND: CommandRow = CommandRow {
     name: "prove",
     about: "Write proofs that an archive has each of some records, or that it has not",
-    options: &[RECORDS],
+    options: &[RECORDS, QUIET],
 };
 
 /// `confirm`.
@@ -153,15 +154,37 @@ pub const CONFIRM_COMMAND: CommandRow = CommandRow {
 /// `read`.
 pub const READ_COMMAND: CommandRow = CommandRow {
     name: "read",
-    about: "Write the archive of the records that a store holds",
-    options: &[DIR, FROM, UNTIL, UNDATED],
+    about: "Write the records that a store holds and that meet all conditions",
+    options: &[
+        DIR,
+        FROM,
+        UNTIL,
+        UNDATED,
+        ONLY_UNDATED,
+        SEVERITY,
+        FACILITY,
+        HOST,
+        APP,
+        PROC,
+        MSGID,
+        ID,
+        RECORD_MESSAGE,
+        HOST_LIKE,
+        APP_LIKE,
+        NOT_HOST,
+        NOT_APP,
+        NOT_MESSAGE,
+        LAST,
+        READ_FORM,
+        COLOR,
+    ],
 };
 
 /// `verify`.
 pub const VERIFY_COMMAND: CommandRow = CommandRow {
     name: "verify",
     about: "Read a whole store and write a line for each damaged file",
-    options: &[DIR],
+    options: &[DIR, QUIET],
 };
 
 /// `stat`.
@@ -175,21 +198,53 @@ pub const STAT_COMMAND: CommandRow = CommandRow {
 pub const COMPACT_COMMAND: CommandRow = CommandRow {
     name: "compact",
     about: "Join the segments of each day of a store that has more than eight",
-    options: &[DIR],
+    options: &[DIR, QUIET],
 };
 
 /// `add`.
 pub const ADD_COMMAND: CommandRow = CommandRow {
     name: "add",
     about: "Put the records of an archive into a store",
-    options: &[NEW_DIR],
+    options: &[NEW_DIR, QUIET],
 };
 
 /// `expire`.
 pub const EXPIRE_COMMAND: CommandRow = CommandRow {
     name: "expire",
     about: "Remove old records from a store, and write a line for each file that goes",
-    options: &[DIR, BEFORE, KEEP, EXPIRE_UNDATED, DRY_RUN],
+    options: &[DIR, BEFORE, KEEP, EXPIRE_UNDATED, DRY_RUN, QUIET],
+};
+
+/// `reconcile`.
+pub const RECONCILE_COMMAND: CommandRow = CommandRow {
+    name: "reconcile",
+    about: "Bring a store and that of another site to the same records, over standard input and output",
+    options: &[
+        DIR,
+        FROM,
+        UNTIL,
+        UNDATED,
+        PULL,
+        PUSH,
+        COMPARE_ALONE,
+        ROOM,
+        TIMEOUT,
+        QUIET,
+    ],
+};
+
+/// `answer`.
+pub const ANSWER_COMMAND: CommandRow = CommandRow {
+    name: "answer",
+    about: "Answer the reconcile of another site for a store, over standard input and output",
+    options: &[DIR, READ_ONLY, ROOM, TIMEOUT],
+};
+
+/// `backup`.
+pub const BACKUP_COMMAND: CommandRow = CommandRow {
+    name: "backup",
+    about: "Copy all that a store holds into a folder of its own",
+    options: &[DIR, COPY_DIR],
 };
 
 /// `send`.
@@ -243,7 +298,7 @@ pub const SERVE_COMMAND: CommandRow = CommandRow {
 };
 
 /// The commands, in the order of the help.
-pub const COMMANDS: [CommandRow; 25] = [
+pub const COMMANDS: [CommandRow; 28] = [
     SHOW_COMMAND,
     CHECK_COMMAND,
     CONVERT_COMMAND,
@@ -266,6 +321,9 @@ pub const COMMANDS: [CommandRow; 25] = [
     COMPACT_COMMAND,
     ADD_COMMAND,
     EXPIRE_COMMAND,
+    RECONCILE_COMMAND,
+    ANSWER_COMMAND,
+    BACKUP_COMMAND,
     SEND_COMMAND,
     COLLECT_COMMAND,
     SERVE_COMMAND,

@@ -63,6 +63,15 @@ pub const JSON: OptionRow = OptionRow {
     help: "Write each record as one line of JSON",
 };
 
+/// `--color` of `show` and `read`.
+pub const COLOR: OptionRow = OptionRow {
+    name: "color",
+    form: Form::Default("auto"),
+    value: "when",
+    kind: Kind::Words("auto, always or never"),
+    help: "Color records by their severity: auto (on a terminal, unless NO_COLOR is set), always or never",
+};
+
 /// `--summary` of `check`.
 pub const SUMMARY: OptionRow = OptionRow {
     name: "summary",
@@ -109,6 +118,15 @@ pub const MEMORY: OptionRow = OptionRow {
 };
 
 // ---- Archives.
+
+/// `--quiet` of commands that may take long.
+pub const QUIET: OptionRow = OptionRow {
+    name: "quiet",
+    form: Form::Flag,
+    value: "",
+    kind: Kind::Text,
+    help: "Do not tell how far the command is, as it does on a terminal",
+};
 
 /// `LEFT` of commands on two archives.
 pub const LEFT: OptionRow = OptionRow {
@@ -220,7 +238,7 @@ pub const RECORDS: OptionRow = OptionRow {
 
 // ---- Conditions on records.
 
-/// `--from` of select and read.
+/// `--from` of `select`, `read` and `reconcile`.
 pub const FROM: OptionRow = OptionRow {
     name: "from",
     form: Form::Single,
@@ -229,7 +247,7 @@ pub const FROM: OptionRow = OptionRow {
     help: "Records at or after this time: 2026-11-25T10:00:00Z; 2026-11-25T10:00 or 2026-11-25 (UTC); or -30m, -1h, -2d",
 };
 
-/// `--to` of select and read.
+/// `--to` of `select`, `read` and `reconcile`.
 pub const UNTIL: OptionRow = OptionRow {
     name: "to",
     form: Form::Single,
@@ -238,7 +256,7 @@ pub const UNTIL: OptionRow = OptionRow {
     help: "Records before this time",
 };
 
-/// `--undated` of select and read.
+/// `--undated` of `select`, `read` and `reconcile`.
 pub const UNDATED: OptionRow = OptionRow {
     name: "undated",
     form: Form::Flag,
@@ -247,7 +265,7 @@ pub const UNDATED: OptionRow = OptionRow {
     help: "Also records without a time, which --from and --to leave out",
 };
 
-/// `--only-undated` of `select`.
+/// `--only-undated` of `select` and `read`.
 pub const ONLY_UNDATED: OptionRow = OptionRow {
     name: "only-undated",
     form: Form::Flag,
@@ -256,7 +274,7 @@ pub const ONLY_UNDATED: OptionRow = OptionRow {
     help: "Only records without a time",
 };
 
-/// `--severity` of `select`.
+/// `--severity` of `select` and `read`.
 pub const SEVERITY: OptionRow = OptionRow {
     name: "severity",
     form: Form::Single,
@@ -265,7 +283,7 @@ pub const SEVERITY: OptionRow = OptionRow {
     help: "Records of this severity or a more severe one: emerg, alert, crit, err, warning, notice, info or debug",
 };
 
-/// `--facility` of `select`.
+/// `--facility` of `select` and `read`.
 pub const FACILITY: OptionRow = OptionRow {
     name: "facility",
     form: Form::List,
@@ -274,7 +292,7 @@ pub const FACILITY: OptionRow = OptionRow {
     help: "Records of this facility, or of one of several: kern, user, mail, daemon, ... or local0 to local7",
 };
 
-/// `--host` of `select`.
+/// `--host` of `select` and `read`.
 pub const HOST: OptionRow = OptionRow {
     name: "host",
     form: Form::List,
@@ -283,7 +301,7 @@ pub const HOST: OptionRow = OptionRow {
     help: "Records with this HOSTNAME, or one of several; - for none",
 };
 
-/// `--app` of `select`.
+/// `--app` of `select` and `read`.
 pub const APP: OptionRow = OptionRow {
     name: "app",
     form: Form::List,
@@ -292,7 +310,7 @@ pub const APP: OptionRow = OptionRow {
     help: "Records with this APP-NAME, or one of several; - for none",
 };
 
-/// `--proc` of `select`.
+/// `--proc` of `select` and `read`.
 pub const PROC: OptionRow = OptionRow {
     name: "proc",
     form: Form::List,
@@ -301,7 +319,7 @@ pub const PROC: OptionRow = OptionRow {
     help: "Records with this PROCID, or one of several; - for none",
 };
 
-/// `--msgid` of `select`.
+/// `--msgid` of `select` and `read`.
 pub const MSGID: OptionRow = OptionRow {
     name: "msgid",
     form: Form::List,
@@ -310,7 +328,7 @@ pub const MSGID: OptionRow = OptionRow {
     help: "Records with this MSGID, or one of several; - for none",
 };
 
-/// `--id` of `select`.
+/// `--id` of `select` and `read`.
 pub const ID: OptionRow = OptionRow {
     name: "id",
     form: Form::List,
@@ -319,7 +337,7 @@ pub const ID: OptionRow = OptionRow {
     help: "Records that have an element with this SD-ID, or one of several",
 };
 
-/// `--message` of `select`.
+/// `--message` of `select` and `read`.
 pub const RECORD_MESSAGE: OptionRow = OptionRow {
     name: "message",
     form: Form::List,
@@ -328,7 +346,7 @@ pub const RECORD_MESSAGE: OptionRow = OptionRow {
     help: "Records whose message contains this text, or one of several",
 };
 
-/// `--host-like` of `select`.
+/// `--host-like` of `select` and `read`.
 pub const HOST_LIKE: OptionRow = OptionRow {
     name: "host-like",
     form: Form::List,
@@ -337,7 +355,7 @@ pub const HOST_LIKE: OptionRow = OptionRow {
     help: "Records whose HOSTNAME is like this pattern, or one of several; * is any text, ? any character",
 };
 
-/// `--app-like` of `select`.
+/// `--app-like` of `select` and `read`.
 pub const APP_LIKE: OptionRow = OptionRow {
     name: "app-like",
     form: Form::List,
@@ -346,7 +364,7 @@ pub const APP_LIKE: OptionRow = OptionRow {
     help: "Records whose APP-NAME is like this pattern, or one of several; * is any text, ? any character",
 };
 
-/// `--not-host` of `select`.
+/// `--not-host` of `select` and `read`.
 pub const NOT_HOST: OptionRow = OptionRow {
     name: "not-host",
     form: Form::List,
@@ -355,7 +373,7 @@ pub const NOT_HOST: OptionRow = OptionRow {
     help: "Records without this HOSTNAME, or any of several; - for none",
 };
 
-/// `--not-app` of `select`.
+/// `--not-app` of `select` and `read`.
 pub const NOT_APP: OptionRow = OptionRow {
     name: "not-app",
     form: Form::List,
@@ -364,7 +382,7 @@ pub const NOT_APP: OptionRow = OptionRow {
     help: "Records without this APP-NAME, or any of several; - for none",
 };
 
-/// `--not-message` of `select`.
+/// `--not-message` of `select` and `read`.
 pub const NOT_MESSAGE: OptionRow = OptionRow {
     name: "not-message",
     form: Form::List,
@@ -514,6 +532,24 @@ pub const NEW_DIR: OptionRow = OptionRow {
     help: "Folder of the store; it is made if it is missing",
 };
 
+/// `--last` of `read`.
+pub const LAST: OptionRow = OptionRow {
+    name: "last",
+    form: Form::Single,
+    value: "n",
+    kind: Kind::Number(1, 1_000_000),
+    help: "Only the last so many of these records: 1 to 1000000",
+};
+
+/// `--as` of `read`.
+pub const READ_FORM: OptionRow = OptionRow {
+    name: "as",
+    form: Form::Default("archive"),
+    value: "form",
+    kind: Kind::Words("archive, lines, json or show"),
+    help: "What is written: archive; lines (one record a line); json (one object a line); or show (fields)",
+};
+
 /// `--before` of `expire`.
 pub const BEFORE: OptionRow = OptionRow {
     name: "before",
@@ -549,6 +585,73 @@ pub const DRY_RUN: OptionRow = OptionRow {
     kind: Kind::Text,
     help: "Write the lines alone, and change nothing",
 };
+
+// ---- Stores of two sites, and copies of a store.
+
+/// `--pull` of `reconcile`.
+pub const PULL: OptionRow = OptionRow {
+    name: "pull",
+    form: Form::Flag,
+    value: "",
+    kind: Kind::Text,
+    help: "Only get records from the other store; with --push too, both",
+};
+
+/// `--push` of `reconcile`.
+pub const PUSH: OptionRow = OptionRow {
+    name: "push",
+    form: Form::Flag,
+    value: "",
+    kind: Kind::Text,
+    help: "Only put records into the other store; with --pull too, both",
+};
+
+/// `--dry-run` of `reconcile`.
+pub const COMPARE_ALONE: OptionRow = OptionRow {
+    name: "dry-run",
+    form: Form::Flag,
+    value: "",
+    kind: Kind::Text,
+    help: "Only compare the stores, and change neither",
+};
+
+/// `--read-only` of `answer`.
+pub const READ_ONLY: OptionRow = OptionRow {
+    name: "read-only",
+    form: Form::Flag,
+    value: "",
+    kind: Kind::Text,
+    help: "Take no records: the store stays as it is",
+};
+
+/// `--room` of `reconcile` and `answer`.
+pub const ROOM: OptionRow = OptionRow {
+    name: "room",
+    form: Form::Default("1024"),
+    value: "mib",
+    kind: Kind::Number(1, 1_048_576),
+    help: "MiB of records that are taken from the other side in all: 1 to 1048576",
+};
+
+/// `--timeout` of `reconcile` and `answer`.
+pub const TIMEOUT: OptionRow = OptionRow {
+    name: "timeout",
+    form: Form::Default("60"),
+    value: "seconds",
+    kind: Kind::Number(1, 86_400),
+    help: "Seconds of silence from the other side after which the command fails: 1 to 86400",
+};
+
+/// `DEST` of `backup`.
+pub const COPY_DIR: OptionRow = OptionRow {
+    name: "DEST",
+    form: Form::Positional,
+    value: "dest",
+    kind: Kind::Folder,
+    help: "Folder for the copy; it is made if it is missing, and has to be empty",
+};
+
+// ---- Records that are received into a store.
 
 /// `--udp` of `serve`.
 pub const UDP: OptionRow = OptionRow {

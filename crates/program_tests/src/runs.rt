@@ -121,7 +121,7 @@ fn usage_faults(rt: &HostRuntime, input: &[u8], rows: &[&[&str]]) -> Result<(), 
 
 #[test]
 fn other_words_are_a_usage_fault(rt: HostRuntime) -> Result<(), Fail> {
-    let rows: [&[&str]; 24] = [
+    let rows: [&[&str]; 27] = [
         &[],
         &["--help"],
         &["help"],
@@ -145,6 +145,9 @@ fn other_words_are_a_usage_fault(rt: HostRuntime) -> Result<(), Fail> {
         &["compact"],
         &["add"],
         &["expire", "d"],
+        &["reconcile"],
+        &["answer"],
+        &["backup", "d"],
         &["serve", "d"],
     ];
     usage_faults(&rt, HELLO, &rows)
@@ -152,7 +155,7 @@ fn other_words_are_a_usage_fault(rt: HostRuntime) -> Result<(), Fail> {
 
 #[test]
 fn what_only_a_program_has_is_a_fault(rt: HostRuntime) -> Result<(), Fail> {
-    let rows: [(&[&str], &[u8]); 9] = [
+    let rows: [(&[&str], &[u8]); 12] = [
         (&["archive", "--spill", "d"], b"spill fault\n"),
         (&["read", "d"], b"store fault\n"),
         (&["verify", "d"], b"store fault\n"),
@@ -160,6 +163,9 @@ fn what_only_a_program_has_is_a_fault(rt: HostRuntime) -> Result<(), Fail> {
         (&["compact", "d"], b"store fault\n"),
         (&["add", "d"], b"store fault\n"),
         (&["expire", "d", "--keep", "90"], b"store fault\n"),
+        (&["reconcile", "d"], b"store fault\n"),
+        (&["answer", "d"], b"store fault\n"),
+        (&["backup", "d", "e"], b"store fault\n"),
         (&["collect", "udp", "514", "1"], b"socket fault\n"),
         (&["serve", "d", "--unix", "s"], b"socket fault\n"),
     ];

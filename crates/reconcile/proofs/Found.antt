@@ -44,6 +44,11 @@ last_below es e d h some low =
     subst (AllByRecursion (λ y. IsBelow y e)) (take_all ((length es - 1) + 1) es enough)
     (below_up_to es e d (length es - 1) h (omega arith) low)
 
+-- the last one is below it, where all are
+pub last_above : (es : List Entry) (e d : Entry) → 1 ≤ length es → AllByRecursion (λ y. IsBelow y e) es
+    → IsBelow (get_or es (length es - 1) d) e
+last_above es e d some all = at_index (λ y. IsBelow y e) es (length es - 1) d all (omega arith)
+
 -- those from one not below the place on are not below it
 pub above_from : (es : List Entry) (e d : Entry) (i : ℕ) → IsAscending es → i < length es
     → ¬ (IsBelow (get_or es i d) e)

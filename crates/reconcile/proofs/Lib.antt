@@ -9,3 +9,5 @@ pub mod Gossip
 pub mod Cuts
 pub mod Found
 pub mod Locals
+pub mod Merges
+pub mod Texts

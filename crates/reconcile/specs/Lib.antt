@@ -4,3 +4,5 @@ pub mod Requests
 pub mod Honest
 pub mod Reconciling
 pub mod Gossip
+pub mod Texts
+pub mod Merging

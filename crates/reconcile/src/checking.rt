@@ -11,8 +11,8 @@ use crate::place::Place;
 use crate::range::Range;
 use std::alloc::AllocError;
 
-// Whether a place is below an upper bound, or there is none.
-fn is_under(high: Option<&Place>, place: &Place) -> bool
+/// Whether a place is below an upper bound, or there is none.
+pub fn is_under(high: Option<&Place>, place: &Place) -> bool
     ensures { IsTrue result ↔ IsUnder (option_map (λ h. h.now) high.entry) place.now }
 {
     match high {

@@ -1,21 +1,22 @@
 //! A set in memory.
 
-ghost use Rattle.std.specs.Prelude.{◌≡◌, ◌↔◌, ◌∷◌, [], IfOk, IsTrue, length};
+ghost use Rattle.std.specs.Prelude.{◌≡◌, ◌↔◌, ◌∷◌, [], IfOk, IsTrue, OnErr, length};
 ghost use Rattle.archive_text.specs.Entries.{Entry, Has, IsAscending, IsEntry};
 ghost use Rattle.archive_text.specs.Text.{IsArchive};
 ghost use Rattle.archive_text.specs.declared.limits.TheConstants.{ENTRY_MAX};
 ghost use Rattle.archive_laws.specs.Props.{archive_prop};
 ghost use Rattle.reconcile.specs.Ranges.{AreThose, Covers, IsInside};
-ghost use Rattle.reconcile.specs.Unions.{IsJoined};
+ghost use Rattle.reconcile.specs.Unions.{IsJoined, Joins};
 
 use crate::checking::is_covered;
 use crate::cutting::parts_of;
+use crate::merging::{copies_of, merge};
 use crate::part::Part;
 use crate::place::Place;
 use crate::range::Range;
 use crate::ranged_set::RangedSet;
 use crate::records::Records;
-use crate::searching::{count_below, has_place, insert_all, insert_place};
+use crate::searching::{count_below, has_place, insert_place};
 use crate::stopped::SetFault;
 use crate::sum::Sum;
 use crate::summing::sum_of;
@@ -75,6 +76,22 @@ fn lacking(
     Ok(those)
 }
 
+// Those of some entries that are not among others.
+fn missing(alloc: Global, entries: &[Place], others: &[Place]) -> Result<Vec<Place>, SetFault>
+    requires entries { IsAscending entries.now }
+    requires others { IsAscending others.now }
+    ensures { IfOk result (λ those. AreThose (λ x. ¬ (Has others.now x)) entries.now those.items) }
+{
+    let mut those = Vec::new(alloc);
+    'entries: for entry in entries {
+        if has_place(others, entry) {
+            continue;
+        }
+        those.push(entry.copy(alloc)?)?;
+    }
+    Ok(those)
+}
+
 impl MemorySet {
     /// A set without records.
     pub fn new(alloc: Global) -> MemorySet
@@ -83,6 +100,16 @@ impl MemorySet {
         MemorySet {
             alloc,
             places: Vec::new(alloc),
+        }
+    }
+
+    /// The set of some records.
+    pub fn of(alloc: Global, records: Records) -> MemorySet
+        ensures { ⟦<MemorySet as RangedSet>⟧.entries result ≡ records }
+    {
+        MemorySet {
+            alloc,
+            places: records.into_entries(),
         }
     }
 
@@ -103,6 +130,15 @@ impl MemorySet {
         }
         let place = Place::of(self.alloc, &entry)?;
         insert_place(self.alloc, &mut self.places, &place)
+    }
+
+    /// Those of some records that the set does not have. It fails only when out of memory.
+    pub fn missing(&self, records: &Records) -> Result<Records, SetFault>
+        ensures { IfOk result (AreThose (λ x.
+            ¬ (Has (⟦<MemorySet as RangedSet>⟧.entries self.now) x)) records.now) }
+    {
+        let those = missing(self.alloc, records.entries(), self.places.as_slice())?;
+        Ok(Records::of(those))
     }
 
     /// The canonical octets of the record at an index; None behind the last.
@@ -140,8 +176,14 @@ impl RangedSet for MemorySet {
         Ok(Records::of(those))
     }
 
-    fn add(&mut self, records: &Records) -> Result<(), SetFault> {
-        insert_all(self.alloc, &mut self.places, records.entries())
+    // after a fault the set is as it was
+    fn add(&mut self, records: &Records) -> Result<(), SetFault>
+        ensures joins { Joins self.old.places.items records.now self.new.places.items result }
+        ensures err { OnErr result (self.new.places.items ≡ self.old.places.items) }
+    {
+        let others = copies_of(self.alloc, records.entries())?;
+        merge(self.alloc, &mut self.places, others)?;
+        Ok(())
     }
 
     ghost archive = { λ s. s.archive };

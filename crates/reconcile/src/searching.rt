@@ -69,15 +69,3 @@ pub fn insert_place(alloc: Global, places: &mut Vec<Place>, place: &Place) -> Re
     places.insert(at, copy)?;
     Ok(())
 }
-
-/// Inserts entries, but for those that are there.
-pub fn insert_all(alloc: Global, places: &mut Vec<Place>, others: &[Place]) -> Result<(), SetFault>
-    requires archive { IsArchive ENTRY_MAX places.old.items }
-    requires others { IsArchive ENTRY_MAX others.now }
-    ensures { Joins places.old.items others.now places.new.items result }
-{
-    'inserting: for place in others {
-        insert_place(alloc, places, place)?;
-    }
-    Ok(())
-}

@@ -29,6 +29,9 @@ pub enum Stopped {
     /// As many turns were made as the plan allows.
     #[error("too many requests")]
     TooMany,
+    /// More came than there is room for.
+    #[error("more came than there is room for")]
+    TooMuch,
     /// An allocation failed.
     #[error("out of memory")]
     Memory,

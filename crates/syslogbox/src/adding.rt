@@ -1,15 +1,16 @@
 //! `add`, over a folder of the system.
 
+use crate::meter::{ClearedWriter, Meter, MeteredReader, SharedMeter, stdin_octets};
 use crate::stores::report_lock_fault;
 use driver::{FAULT, NO_MEMORY, report};
 use folder_disk::{FolderDisk, FolderFault, FolderLock, LockFile};
-use octet_devices::{FromRead, Output};
+use octet_devices::{FromRead, Output, ToWrite};
 use std::alloc::Global;
 use std::io::ErrorKind;
 use store_engine::{add_to_store, line_on, report_file_error};
 
-// Reports why nothing may be added to a folder, and returns the exit status.
-fn report_folder_fault<N: Output>(
+/// Reports why nothing may be added to a folder, and returns the exit status.
+pub fn report_folder_fault<N: Output>(
     alloc: Global,
     dir: &str,
     fault: FolderFault,
@@ -24,22 +25,52 @@ fn report_folder_fault<N: Output>(
     }
 }
 
-/// Puts the records of an archive on standard input into the store in a folder, which is made if it is
-/// missing. Returns the exit status: 0 where all of the archive is on the disk.
-pub fn add<N: Output>(rt: &HostRuntime, alloc: Global, dir: &str, diagnostics: &mut N) -> u8 {
+/// Opens the folder of a store that records are put into, which is made if it is missing, and locks it against
+/// others who add; or reports why not, and gives the exit status.
+pub fn open_to_add<N: Output>(
+    rt: &HostRuntime,
+    alloc: Global,
+    dir: &str,
+    diagnostics: &mut N,
+) -> Result<FolderDisk<HostRuntime>, u8> {
     let mut disk = match FolderDisk::create(rt, dir) {
         Ok(disk) => disk,
-        Err(fault) => return report_folder_fault(alloc, dir, fault, diagnostics),
+        Err(fault) => return Err(report_folder_fault(alloc, dir, fault, diagnostics)),
     };
     let lock = LockFile::Addition;
     match FolderLock::take(rt, dir, lock) {
         Ok(taken) => disk.hold(taken),
-        Err(fault) => return report_lock_fault(alloc, lock, fault, diagnostics),
+        Err(fault) => return Err(report_lock_fault(alloc, lock, fault, diagnostics)),
     }
-    let mut input = FromRead::new(rt.stdin());
-    let status = add_to_store(alloc, &mut disk, &mut input, diagnostics);
+    Ok(disk)
+}
+
+// Puts the records of standard input, whose octets a meter counts, into the store in a folder.
+fn add_metered(rt: &HostRuntime, alloc: Global, dir: &str, meter: SharedMeter<'_, '_>) -> u8 {
+    let mut diagnostics = ToWrite::new(ClearedWriter {
+        writer: rt.stderr(),
+        meter,
+    });
+    let mut disk = match open_to_add(rt, alloc, dir, &mut diagnostics) {
+        Ok(disk) => disk,
+        Err(status) => return status,
+    };
+    meter.expect_more(stdin_octets(rt));
+    let mut input = FromRead::new(MeteredReader {
+        reader: rt.stdin(),
+        meter,
+    });
+    let status = add_to_store(alloc, &mut disk, &mut input, &mut diagnostics);
+    meter.clear();
     match disk.last_error() {
-        Some(error) if status == FAULT => report_file_error(alloc, dir, error, diagnostics),
+        Some(error) if status == FAULT => report_file_error(alloc, dir, error, &mut diagnostics),
         _ => status,
     }
+}
+
+/// Puts the records of an archive on standard input into the store in a folder, which is made if it is
+/// missing. Returns the exit status: 0 where all of the archive is on the disk.
+pub fn add(rt: &HostRuntime, alloc: Global, dir: &str, is_quiet: bool) -> u8 {
+    let meter = Meter::of_input(rt, is_quiet);
+    add_metered(rt, alloc, dir, SharedMeter::new(meter.as_ref()))
 }

@@ -6,7 +6,7 @@ use syslog_grammar::canonical_timestamp;
 use syslog_value::Instant;
 
 // The commands that take times.
-const COMMANDS: [&str; 3] = ["select", "read", "expire"];
+const COMMANDS: [&str; 4] = ["select", "read", "expire", "reconcile"];
 
 // The options that take them.
 const OPTIONS: [&str; 3] = ["--from", "--to", "--before"];

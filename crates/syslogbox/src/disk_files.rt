@@ -2,6 +2,7 @@
 
 ghost use Rattle.std.specs.Prelude.{None};
 
+use crate::meter::{MeteredReader, SharedMeter, file_octets};
 use commands::Files;
 use octet_devices::FromRead;
 use std::alloc::Global;
@@ -15,20 +16,22 @@ pub struct UnopenedFile {
     pub error: io::Error,
 }
 
-/// The files of the system. No contract knows their octets.
+/// The files of the system, whose octets a meter counts. No contract knows them.
 #[derive(Drop)]
-pub struct DiskFiles<'a, R> {
+pub struct DiskFiles<'a, 'm, 'r, R> {
     rt: &'a R,
     alloc: Global,
+    meter: SharedMeter<'m, 'r>,
     unopened: Option<UnopenedFile>,
 }
 
-impl<'a, R: rt::Files> DiskFiles<'a, R> {
+impl<'a, 'm, 'r, R: rt::Files> DiskFiles<'a, 'm, 'r, R> {
     /// The files that this runtime opens.
-    pub fn new(rt: &'a R, alloc: Global) -> DiskFiles<'a, R> {
+    pub fn new(rt: &'a R, alloc: Global, meter: SharedMeter<'m, 'r>) -> DiskFiles<'a, 'm, 'r, R> {
         DiskFiles {
             rt,
             alloc,
+            meter,
             unopened: None,
         }
     }
@@ -39,14 +42,18 @@ impl<'a, R: rt::Files> DiskFiles<'a, R> {
     }
 }
 
-impl<'a, R: rt::Files> Files for DiskFiles<'a, R> {
-    type Reader = FromRead<R::File>;
+impl<'a, 'm, 'r, R: rt::Files> Files for DiskFiles<'a, 'm, 'r, R> {
+    type Reader = FromRead<MeteredReader<'m, 'r, R::File>>;
 
     ghost stored = { λ _. None };
 
-    fn reader(&mut self, name: &str) -> Option<FromRead<R::File>> {
+    fn reader(&mut self, name: &str) -> Option<FromRead<MeteredReader<'m, 'r, R::File>>> {
         match File::open(self.rt, name) {
-            Ok(file) => Some(FromRead::new(file)),
+            Ok(reader) => {
+                let meter = self.meter;
+                meter.expect_more(file_octets(self.rt, name));
+                Some(FromRead::new(MeteredReader { reader, meter }))
+            }
             Err(error) => {
                 if self.unopened.is_none() {
                     let name = String::from_str(self.alloc, name).ok();

@@ -4,30 +4,39 @@
 mod adding;
 mod ago;
 mod collect;
+mod colors;
 mod columns;
+mod copies;
 mod descriptors;
 mod disk_files;
 mod entries;
 mod errors;
 mod flushing;
+mod meter;
+mod metered_store;
 mod notes;
 mod opening;
 mod outputs;
 mod refused;
 mod serve;
 mod service_manager;
+mod shared_disk;
+mod sites;
 mod spill;
 mod stores;
 mod telling;
 mod time;
+mod timed_pipe;
 
-use command_line::{FileRequest, Request, read_words};
-use commands::{report_words_fault, run_request};
+use command_line::{FileRequest, FrameCommand, FrameRequest, Invocation, Request, read_words};
+use commands::{answer_words_fault, run_request};
 use descriptors::{can_be_written, occupy_closed_descriptors};
 use disk_files::{DiskFiles, UnopenedFile};
 use driver::{FAULT, NO_MEMORY, report};
 use errors::QuietErrors;
+use meter::{ClearedWriter, Meter, MeteredOutput, MeteredReader, SharedMeter, stdin_octets};
 use octet_devices::{FromRead, ToWrite};
+use std::cell::RefCell;
 use std::io::{Stderr, Stdout};
 use std::process::ExitCode;
 use std::{env, io};
@@ -58,29 +67,60 @@ fn may_tell_why(request: &Request<'_>) -> bool {
     }
 }
 
-// Runs a request on standard input and files, and tells why a file was not opened. Returns the exit
-// status.
-fn on_files(
-    rt: &HostRuntime,
-    request: Request<'_>,
-    output: &mut ToWrite<Stdout>,
-    diagnostics: &mut ToWrite<Stderr>,
-) -> u8 {
+// The meter of a request on archives; None for others, and where no line is wanted or can be drawn.
+fn meter_of<'r>(
+    rt: &'r HostRuntime,
+    request: &Request<'_>,
+    is_quiet: bool,
+) -> Option<RefCell<Meter<'r>>> {
+    match request {
+        Request::Files(_) => Meter::of_files(rt, is_quiet),
+        Request::Frames(
+            FrameRequest {
+                command: FrameCommand::Archive,
+                ..
+            },
+        )
+        | Request::Select { .. }
+        | Request::Digest { .. }
+        | Request::Count { .. }
+        | Request::Root
+        | Request::Prove { .. }
+        | Request::Confirm { .. } => Meter::of_input(rt, is_quiet),
+        _ => None,
+    }
+}
+
+// Runs a request on standard input and files, whose octets a meter counts, and tells why a file was not
+// opened. Returns the exit status.
+fn on_metered_files(rt: &HostRuntime, request: Request<'_>, meter: SharedMeter<'_, '_>) -> u8 {
     let tells_why = may_tell_why(&request);
-    let mut input = FromRead::new(rt.stdin());
-    let mut files = DiskFiles::new(rt, rt.alloc());
+    if !matches!(request, Request::Files(_)) {
+        meter.expect_more(stdin_octets(rt));
+    }
+    let mut input = FromRead::new(MeteredReader {
+        reader: rt.stdin(),
+        meter,
+    });
+    let mut output = ToWrite::new(MeteredOutput::new(rt.stdout(), meter));
+    let mut diagnostics = ToWrite::new(ClearedWriter {
+        writer: rt.stderr(),
+        meter,
+    });
+    let mut files = DiskFiles::new(rt, rt.alloc(), meter);
     let status = run_request(
         rt.alloc(),
         request,
         &mut input,
-        output,
-        diagnostics,
+        &mut output,
+        &mut diagnostics,
         &mut files,
     );
+    meter.clear();
     match files.unopened() {
         Some(UnopenedFile { name, error }) if tells_why => {
             match line_on(rt.alloc(), name.as_str(), error) {
-                Ok(line) => report(diagnostics, line.as_bytes(), status),
+                Ok(line) => report(&mut diagnostics, line.as_bytes(), status),
                 Err(_) => status,
             }
         }
@@ -88,15 +128,50 @@ fn on_files(
     }
 }
 
+// The same, with a meter where the request has one.
+fn on_files(rt: &HostRuntime, request: Request<'_>, is_quiet: bool) -> u8 {
+    let meter = meter_of(rt, &request, is_quiet);
+    on_metered_files(rt, request, SharedMeter::new(meter.as_ref()))
+}
+
+// The same command on frames, which colors what it shows always or never, as the terminal and the environment
+// have it.
+fn colored(rt: &HostRuntime, command: FrameCommand) -> FrameCommand {
+    match command {
+        FrameCommand::Show { json, color } => FrameCommand::Show {
+            json,
+            color: colors::settled(rt, color),
+        },
+        command => command,
+    }
+}
+
 // Runs a request, and returns the exit status.
 fn run(
     rt: &HostRuntime,
     request: Request<'_>,
+    is_quiet: bool,
     output: &mut ToWrite<Stdout>,
     diagnostics: &mut ToWrite<Stderr>,
 ) -> u8 {
     let alloc = rt.alloc();
     match request {
+        Request::Frames(
+            FrameRequest {
+                input_framing,
+                limit,
+                reading,
+                command,
+            },
+        ) => {
+            let frames = FrameRequest {
+                input_framing,
+                limit,
+                reading,
+                command: colored(rt, command),
+            };
+            on_files(rt, Request::Frames(frames), is_quiet)
+        }
         Request::Collect { words } => {
             if !can_be_written(rt) {
                 return report(diagnostics, b"write fault\n", FAULT);
@@ -104,17 +179,23 @@ fn run(
             collect::collect(rt, alloc, &words, output, diagnostics)
         }
         Request::Serve { words } => serve::serve(rt, &words),
-        Request::Read { dir, range } => {
+        Request::Read {
+            dir,
+            conditions,
+            words,
+        } => {
             let mut diagnostics = ToWrite::new(QuietErrors::new(rt));
-            stores::read(rt, alloc, dir, range, output, &mut diagnostics)
+            let options = stores::read_options(rt, conditions, words);
+            stores::read(rt, alloc, dir, &options, output, &mut diagnostics)
         }
-        Request::Verify { dir } => stores::verify(rt, alloc, dir, output, diagnostics),
+        Request::Verify { dir } => stores::verify(rt, alloc, dir, is_quiet),
         Request::Stat { dir } => stores::stat(rt, alloc, dir, output, diagnostics),
-        Request::Compact { dir } => stores::compact(rt, alloc, dir, diagnostics),
-        Request::Expire { dir, words } => {
-            stores::expire(rt, alloc, dir, words, output, diagnostics)
-        }
-        Request::Add { dir } => adding::add(rt, alloc, dir, diagnostics),
+        Request::Compact { dir } => stores::compact(rt, alloc, dir, is_quiet),
+        Request::Expire { dir, words } => stores::expire(rt, alloc, dir, words, is_quiet),
+        Request::Add { dir } => adding::add(rt, alloc, dir, is_quiet),
+        Request::Reconcile { dir, words } => sites::reconcile(rt, alloc, dir, &words),
+        Request::Answer { dir, words } => sites::answer(rt, alloc, dir, &words),
+        Request::Backup { dir, to } => copies::backup(rt, alloc, dir, to, diagnostics),
         Request::SpillArchive {
             input_framing,
             reading,
@@ -126,12 +207,13 @@ fn run(
             input_framing,
             reading,
             &spill::Room { dir, memory_mib },
+            is_quiet,
         ),
         Request::Count { options } => {
             let options = columns::fitted(rt, options);
-            on_files(rt, Request::Count { options }, output, diagnostics)
+            on_files(rt, Request::Count { options }, is_quiet)
         }
-        request => on_files(rt, request, output, diagnostics),
+        request => on_files(rt, request, is_quiet),
     }
 }
 
@@ -153,8 +235,10 @@ fn main(rt: HostRuntime) -> ExitCode {
     };
     let mut output = ToWrite::new(rt.stdout());
     let status = match read_words(rt.alloc(), args.as_slice()) {
-        Ok(request) => run(&rt, request, &mut output, &mut diagnostics),
-        Err(fault) => report_words_fault(&fault, &mut diagnostics),
+        Ok(Invocation { request, is_quiet }) => {
+            run(&rt, request, is_quiet, &mut output, &mut diagnostics)
+        }
+        Err(fault) => answer_words_fault(&fault, &mut output, &mut diagnostics),
     };
     ExitCode::from(status)
 }

@@ -1,18 +1,22 @@
 //! `read`, `verify`, `stat`, `compact` and `expire`, over a folder of the system.
 
 use crate::ago::days_ago;
-use archive_sets::InRange;
-use command_line::{ExpireBound, ExpireWords};
+use crate::colors;
+use crate::meter::{ClearedWriter, Meter, SharedMeter};
+use crate::metered_store::{MeteredStore, store_octets};
+use archive_sets::Conditions;
+use command_line::{ColorWhen, ExpireBound, ExpireWords, ReadWords};
 use disk::DiskFault;
 use driver::{DONE, FAULT, NO_MEMORY, report};
 use folder_disk::{FileError, FolderLock, LockFault, LockFile};
-use octet_devices::Output;
+use octet_devices::{Output, ToWrite};
+use read_engine::{ReadForm, ReadOptions, read_records};
 use std::alloc::Global;
 use std::fmt::Display;
-use std::io::ErrorKind;
+use std::io::{ErrorKind, IsTerminal, Stderr, Stdout};
 use store_engine::{
-    SystemDisk, SystemFolder, line_on, read_store, report_damaged_file, report_file_error,
-    report_no_store, report_read_fault, verify_store,
+    SystemDisk, SystemFolder, line_on, report_damaged_file, report_file_error, report_no_store,
+    report_read_fault, verify_store,
 };
 use store_expiry::{ExpireFault, Expired};
 use store_reading::{FileFault, ReadFault};
@@ -20,9 +24,9 @@ use store_statistics::stat_store;
 use store_upkeep::{CompactFault, DamagedFile};
 use syslog_value::Instant;
 
-// Reports the error by which a call on the folder or a file failed, behind the line on the fault that it
-// is. Returns the exit status.
-fn explained<N: Output>(
+/// Reports the error by which a call on the folder or a file failed, behind the line on the fault that it
+/// is. Returns the exit status.
+pub fn explained<N: Output>(
     alloc: Global,
     dir: &str,
     folder: &SystemFolder<HostRuntime>,
@@ -35,12 +39,34 @@ fn explained<N: Output>(
     }
 }
 
-/// Writes the archive of the records in a range of time that a store holds. Returns the exit status.
+/// What `read` writes, once it is known whether it is colored.
+pub fn read_options<'a>(
+    rt: &HostRuntime,
+    conditions: Conditions<'a>,
+    words: ReadWords,
+) -> ReadOptions<'a> {
+    let form = match words.form {
+        command_line::ReadForm::Archive => ReadForm::Archive,
+        command_line::ReadForm::Lines => ReadForm::Lines,
+        command_line::ReadForm::Json => ReadForm::Json,
+        command_line::ReadForm::Show => match colors::settled(rt, words.color) {
+            ColorWhen::Always => ReadForm::ColoredShow,
+            ColorWhen::Auto | ColorWhen::Never => ReadForm::Show,
+        },
+    };
+    ReadOptions {
+        conditions,
+        last: words.last,
+        form,
+    }
+}
+
+/// Writes the records that a store holds and that meet conditions. Returns the exit status.
 pub fn read<W: Output, N: Output>(
     rt: &HostRuntime,
     alloc: Global,
     dir: &str,
-    range: InRange,
+    options: &ReadOptions<'_>,
     output: &mut W,
     diagnostics: &mut N,
 ) -> u8 {
@@ -48,25 +74,56 @@ pub fn read<W: Output, N: Output>(
         Ok(folder) => folder,
         Err(error) => return report_no_store(alloc, dir, &error, diagnostics),
     };
-    let status = read_store(alloc, &mut folder, range, output, diagnostics);
+    let status = read_records(alloc, &mut folder, options, output, diagnostics);
     explained(alloc, dir, &folder, status, diagnostics)
+}
+
+// Standard output, before whose lines the line of a meter is cleared where both are on a terminal.
+fn cleared_output<'m, 'r>(
+    rt: &HostRuntime,
+    meter: SharedMeter<'m, 'r>,
+) -> ToWrite<ClearedWriter<'m, 'r, Stdout>> {
+    let writer = rt.stdout();
+    let meter = if writer.is_terminal() {
+        meter
+    } else {
+        SharedMeter::new(None)
+    };
+    ToWrite::new(ClearedWriter { writer, meter })
+}
+
+// Standard error, before whose lines the line of a meter is cleared.
+fn cleared_errors<'m, 'r>(
+    rt: &HostRuntime,
+    meter: SharedMeter<'m, 'r>,
+) -> ToWrite<ClearedWriter<'m, 'r, Stderr>> {
+    let writer = rt.stderr();
+    ToWrite::new(ClearedWriter { writer, meter })
+}
+
+// Writes a line for each file of a store that is damaged; a meter counts the octets of all of them.
+fn verify_metered(rt: &HostRuntime, alloc: Global, dir: &str, meter: SharedMeter<'_, '_>) -> u8 {
+    let mut output = cleared_output(rt, meter);
+    let mut diagnostics = cleared_errors(rt, meter);
+    let store = match SystemFolder::open(rt, dir) {
+        Ok(store) => store,
+        Err(error) => return report_no_store(alloc, dir, &error, &mut diagnostics),
+    };
+    let mut folder = MeteredStore { store, meter };
+    let status = verify_store(alloc, &mut folder, &mut output, &mut diagnostics);
+    meter.clear();
+    explained(alloc, dir, &folder.store, status, &mut diagnostics)
 }
 
 /// Writes a line for each file of a store that is damaged. Returns the exit status: 0 if none is, 1
 /// if one is, else that of a fault.
-pub fn verify<W: Output, N: Output>(
-    rt: &HostRuntime,
-    alloc: Global,
-    dir: &str,
-    output: &mut W,
-    diagnostics: &mut N,
-) -> u8 {
-    let mut folder = match SystemFolder::open(rt, dir) {
-        Ok(folder) => folder,
-        Err(error) => return report_no_store(alloc, dir, &error, diagnostics),
-    };
-    let status = verify_store(alloc, &mut folder, output, diagnostics);
-    explained(alloc, dir, &folder, status, diagnostics)
+pub fn verify(rt: &HostRuntime, alloc: Global, dir: &str, is_quiet: bool) -> u8 {
+    let meter = Meter::of_files(rt, is_quiet);
+    let shared = SharedMeter::new(meter.as_ref());
+    if meter.is_some() {
+        shared.expect_more(store_octets(rt, dir));
+    }
+    verify_metered(rt, alloc, dir, shared)
 }
 
 /// Writes a line for each file of a store, with what it has, and one for all of them. Returns the exit
@@ -164,14 +221,15 @@ pub fn report_lock_fault<N: Output>(
     }
 }
 
-// Opens a store whose segments are joined or removed, and locks it against others who do; or reports why
-// that is not done, and gives the exit status.
-fn open_locked<N: Output>(
+// Opens a store whose segments are joined or removed, of whose files a meter counts what is read, and locks
+// it against others who do; or reports why that is not done, and gives the exit status.
+fn open_locked<'m, 'r, N: Output>(
     rt: &HostRuntime,
     alloc: Global,
     dir: &str,
+    meter: SharedMeter<'m, 'r>,
     diagnostics: &mut N,
-) -> Result<SystemDisk<HostRuntime>, u8> {
+) -> Result<MeteredStore<'m, 'r, SystemDisk<HostRuntime>>, u8> {
     let mut disk = match SystemDisk::open(rt, dir) {
         Ok(disk) => disk,
         Err(error) => return Err(report_no_store(alloc, dir, &error, diagnostics)),
@@ -181,20 +239,31 @@ fn open_locked<N: Output>(
         Ok(taken) => disk.hold(taken),
         Err(fault) => return Err(report_lock_fault(alloc, lock, fault, diagnostics)),
     }
-    Ok(disk)
+    Ok(MeteredStore { store: disk, meter })
+}
+
+// The same as `compact`; a meter counts the octets that are read, of some files more than once.
+fn compact_metered(rt: &HostRuntime, alloc: Global, dir: &str, meter: SharedMeter<'_, '_>) -> u8 {
+    let mut diagnostics = cleared_errors(rt, meter);
+    let mut disk = match open_locked(rt, alloc, dir, meter, &mut diagnostics) {
+        Ok(disk) => disk,
+        Err(status) => return status,
+    };
+    let compacted = store_upkeep::compact(alloc, &mut disk);
+    meter.clear();
+    match compacted {
+        Ok(()) => DONE,
+        Err(fault) => report_change_fault(alloc, &disk.store, dir, fault, &mut diagnostics),
+    }
 }
 
 /// Joins the segments of each day of a store that has more than eight. Returns the exit status: 0 where
 /// each day has at most eight then, 1 where a segment is damaged.
-pub fn compact<N: Output>(rt: &HostRuntime, alloc: Global, dir: &str, diagnostics: &mut N) -> u8 {
-    let mut disk = match open_locked(rt, alloc, dir, diagnostics) {
-        Ok(disk) => disk,
-        Err(status) => return status,
-    };
-    match store_upkeep::compact(alloc, &mut disk) {
-        Ok(()) => DONE,
-        Err(fault) => report_change_fault(alloc, &disk, dir, fault, diagnostics),
-    }
+pub fn compact(rt: &HostRuntime, alloc: Global, dir: &str, is_quiet: bool) -> u8 {
+    let meter = Meter::of_files(rt, is_quiet);
+    let meter = SharedMeter::new(meter.as_ref());
+    meter.expect_more(None);
+    compact_metered(rt, alloc, dir, meter)
 }
 
 // The time up to which records are removed; `None` where the system's clock does not tell it.
@@ -226,30 +295,45 @@ fn report_expire_fault<N: Output>(
     }
 }
 
+// Removes what is old of a store; a meter counts the octets that are read, of some files more than once.
+fn expire_metered(
+    rt: &HostRuntime,
+    alloc: Global,
+    dir: &str,
+    expired: Expired,
+    is_dry_run: bool,
+    meter: SharedMeter<'_, '_>,
+) -> u8 {
+    let mut output = cleared_output(rt, meter);
+    let mut diagnostics = cleared_errors(rt, meter);
+    let mut disk = match open_locked(rt, alloc, dir, meter, &mut diagnostics) {
+        Ok(disk) => disk,
+        Err(status) => return status,
+    };
+    let ended = store_expiry::expire(alloc, &mut disk, expired, is_dry_run, &mut output);
+    meter.clear();
+    match ended {
+        Ok(()) => DONE,
+        Err(fault) => report_expire_fault(alloc, &disk.store, dir, fault, &mut diagnostics),
+    }
+}
+
 /// Removes old records of a store, and writes a line for each file that goes. Returns the exit status: 0
 /// where no segment has an old record then, 1 where one is damaged.
-pub fn expire<W: Output, N: Output>(
+pub fn expire(
     rt: &HostRuntime,
     alloc: Global,
     dir: &str,
     words: ExpireWords,
-    output: &mut W,
-    diagnostics: &mut N,
+    is_quiet: bool,
 ) -> u8 {
     let Some(time) = time_of(rt, words.bound) else {
-        return report(
-            diagnostics,
-            b"the system's clock does not tell the time\n",
-            FAULT,
-        );
+        let line = b"the system's clock does not tell the time\n";
+        return report(&mut ToWrite::new(rt.stderr()), line, FAULT);
     };
     let expired = Expired::before(time, words.undated);
-    let mut disk = match open_locked(rt, alloc, dir, diagnostics) {
-        Ok(disk) => disk,
-        Err(status) => return status,
-    };
-    match store_expiry::expire(alloc, &mut disk, expired, words.dry_run, output) {
-        Ok(()) => DONE,
-        Err(fault) => report_expire_fault(alloc, &disk, dir, fault, diagnostics),
-    }
+    let meter = Meter::of_files(rt, is_quiet);
+    let meter = SharedMeter::new(meter.as_ref());
+    meter.expect_more(None);
+    expire_metered(rt, alloc, dir, expired, words.dry_run, meter)
 }

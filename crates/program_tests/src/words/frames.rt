@@ -118,7 +118,7 @@ fn flag(rt: &HostRuntime, words: &[&str]) -> Option<bool> {
     };
     match found.command {
         FrameCommand::Check { summary } => Some(summary),
-        FrameCommand::Show { json } => Some(json),
+        FrameCommand::Show { json, .. } => Some(json),
         _ => None,
     }
 }

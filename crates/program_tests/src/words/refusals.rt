@@ -1,6 +1,6 @@
 //! What is told in place of a request.
 
-use crate::words::asked;
+use crate::words::{asked, refuses};
 use command_line::WordsFault;
 
 // whether this text is told in place of a request
@@ -13,8 +13,34 @@ fn tells(rt: &HostRuntime, words: &[&str], text: &str) -> bool {
 
 #[test]
 fn the_version_is_a_text(rt: HostRuntime) {
-    assert!(rt; tells(&rt, &["--version"], "syslogbox 0.9.0\n"));
-    assert!(rt; tells(&rt, &["-V"], "syslogbox 0.9.0\n"));
+    assert!(rt; tells(&rt, &["--version"], "syslogbox 0.11.0\n"));
+    assert!(rt; tells(&rt, &["-V"], "syslogbox 0.11.0\n"));
+}
+
+// whether a text that holds this is told, since the words ask for it
+fn helps(rt: &HostRuntime, words: &[&str], part: &str) -> bool {
+    match &asked(rt, words) {
+        Err(WordsFault::Help(told)) => told.as_str().contains(part),
+        _ => false,
+    }
+}
+
+#[test]
+fn a_command_has_help_and_the_version(rt: HostRuntime) {
+    assert!(rt; helps(&rt, &["check", "--help"], "--summary"));
+    assert!(rt; helps(&rt, &["check", "--summary", "-h"], "--summary"));
+    assert!(rt; helps(&rt, &["serve", "--version"], "0.11.0\n"));
+    assert!(rt; helps(&rt, &["root", "-V"], "0.11.0\n"));
+    let rows: [&[&str]; 5] = [
+        &["--help"],
+        &["-h"],
+        &["help"],
+        &["help", "check"],
+        &["no-command", "--help"],
+    ];
+    for words in rows {
+        assert!(rt; refuses(&rt, words), "{words:?}");
+    }
 }
 
 const REFUSED_COUNTS: [(&[&str], &str); 5] = [
@@ -243,6 +269,51 @@ const REFUSED_SOCKETS: [(&[&str], &str); 16] = [
     ),
 ];
 
+const REFUSED_SITES: [(&[&str], &str); 4] = [
+    (
+        &["reconcile", "d", "--room=0", "--to=x", "--from=-1h"],
+        "error: invalid value '-1h' for --from: expected a time in the years 0 to 9999 of UTC, such \
+        as 2026-11-25T10:00:00Z, 2026-11-25T10:00 or 2026-11-25\n",
+    ),
+    (
+        &["reconcile", "d", "--timeout=0", "--room=1048577"],
+        "error: invalid value '1048577' for --room: expected a number from 1 to 1048576\n",
+    ),
+    (
+        &["reconcile", "d", "--timeout=86401"],
+        "error: invalid value '86401' for --timeout: expected a number from 1 to 86400\n",
+    ),
+    (
+        &["answer", "d", "--timeout=0", "--room=-1"],
+        "error: invalid value '-1' for --room: expected a number from 1 to 1048576\n",
+    ),
+];
+
+const UNKNOWN_OPTIONS: [(&[&str], &str); 3] = [
+    (
+        &["serve", "d", "--tcp", "127.0.0.1:514"],
+        "error: unexpected argument '--tcp' found\n\nUsage: syslogbox serve <DIR>\n\nFor more \
+        information, try '--help'.\n",
+    ),
+    (
+        &["verify", "--lf"],
+        "error: unexpected argument '--lf' found\n\nUsage: syslogbox verify [OPTIONS] <DIR>\n\nFor \
+        more information, try '--help'.\n",
+    ),
+    (
+        &["verify", "-d"],
+        "error: unexpected argument '-d' found\n\n  tip: to pass '-d' as a value, use '-- -d'\n\n\
+        Usage: syslogbox verify [OPTIONS] <DIR>\n\nFor more information, try '--help'.\n",
+    ),
+];
+
+#[test]
+fn no_tip_takes_an_option_for_a_value(rt: HostRuntime) {
+    for (words, text) in UNKNOWN_OPTIONS {
+        assert!(rt; tells(&rt, words, text));
+    }
+}
+
 #[test]
 fn the_first_option_that_is_refused_is_named(rt: HostRuntime) {
     for (words, text) in REFUSED_FRAMES {
@@ -258,6 +329,9 @@ fn the_first_option_that_is_refused_is_named(rt: HostRuntime) {
         assert!(rt; tells(&rt, words, text));
     }
     for (words, text) in REFUSED_SOCKETS {
+        assert!(rt; tells(&rt, words, text));
+    }
+    for (words, text) in REFUSED_SITES {
         assert!(rt; tells(&rt, words, text));
     }
 }

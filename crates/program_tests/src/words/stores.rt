@@ -1,62 +1,9 @@
 //! Commands on stores.
 
 use crate::words::{asked, refuses_all};
-use archive_sets::InRange;
 use command_line::{ExpireBound, ExpireWords, Request};
 use std::test::Fail;
 use syslog_value::Instant;
-
-// whether `read` with these words takes the folder `d` and this range
-fn reads(
-    rt: &HostRuntime,
-    words: &[&str],
-    from: Option<i64>,
-    to: Option<i64>,
-    undated: bool,
-) -> bool {
-    let asked_for = InRange {
-        from: from.and_then(Instant::from_micros),
-        to: to.and_then(Instant::from_micros),
-        undated,
-    };
-    match &asked(rt, words) {
-        Ok(Request::Read { dir, range }) => *dir == "d" && *range == asked_for,
-        _ => false,
-    }
-}
-
-#[test]
-fn read_takes_a_folder_and_a_range(rt: HostRuntime) -> Result<(), Fail> {
-    let then = Some(1_795_600_800_000_000);
-    let rows: [(&[&str], Option<i64>, Option<i64>, bool); 3] = [
-        (&["read", "d"], None, None, false),
-        (
-            &["read", "--undated", "--from", "2026-11-25T10:00:00Z", "d"],
-            then,
-            None,
-            true,
-        ),
-        (
-            &["read", "d", "--to=2026-11-25T10:00:00Z"],
-            None,
-            then,
-            false,
-        ),
-    ];
-    for (words, from, to, undated) in rows {
-        assert!(rt; reads(&rt, words, from, to, undated), "{words:?}");
-    }
-    refuses_all(
-        &rt,
-        &[
-            &["read"],
-            &["read", "d", "e"],
-            &["read", "d", "--to", "-"],
-            &["read", "d", "--only-undated"],
-            &["read", "d", "--host=a"],
-        ],
-    )
-}
 
 #[test]
 fn a_store_is_compacted(rt: HostRuntime) -> Result<(), Fail> {

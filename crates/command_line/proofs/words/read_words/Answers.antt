@@ -5,7 +5,7 @@ use Rattle.clap.specs.Simple.{app_of}
 use Rattle.option_values.specs.declared.option_row.Refusal.{Refusal}
 use Rattle.command_line.specs.Requests.{asked_by}
 use Rattle.command_line.specs.declared.request.Request.{Request}
-use Rattle.command_line.proofs.LineLemmas.{parsed_ok, parsed_err}
+use Rattle.command_line.proofs.LineLemmas.{answers_err, answers_refused, parsed_ok, quiet_ok}
 use Rattle.command_line.proofs.words.read_words.Goals as goal
 
 pub returns-in-Ok-Ok-clause-ok : goal.returns-in-Ok-Ok-clause-ok
@@ -14,15 +14,22 @@ returns-in-Ok-Ok-clause-ok g c =
     c.in-Ok.ensures.matches c.in-Ok.ensures.kinds ∙ sym c.in-Ok-Ok.ensures
     ∙ ap (λ (r : Result Request Refusal). option_map asked_by (result_ok r)) c.in-Ok-Ok.field-0-is
 
-pub returns-in-Ok-Err-clause-err : goal.returns-in-Ok-Err-clause-err
-returns-in-Ok-Err-clause-err g c = λ _.
-    parsed_ok (map g.S.AsStr.text c.args.words.now) (app_of c.in_ok-line.line) c.in-Ok.matches c.in_ok-line.ensures
-    c.in-Ok.ensures.matches c.in-Ok.ensures.kinds ∙ sym c.in-Ok-Err.ensures
-    ∙ ap (λ (r : Result Request Refusal). option_map asked_by (result_ok r)) c.in-Ok-Err.field-0-is
+pub returns-in-Ok-Ok-clause-quiet : goal.returns-in-Ok-Ok-clause-quiet
+returns-in-Ok-Ok-clause-quiet g c =
+    c.is_quiet.ensures
+    ∙ sym (quiet_ok (map g.S.AsStr.text c.args.words.now) (app_of c.in_ok-line.line) c.in-Ok.matches c.in_ok-line.ensures
+    c.in-Ok.ensures.matches c.in-Ok.ensures.kinds)
 
-pub returns : goal.returns
-returns g c = record {
-  ok = tt;
-  err = λ _. parsed_err (map g.S.AsStr.text c.args.words.now) (app_of c.in_ok-line.line) c.in-Err.error
-      c.in_ok-line.ensures c.in-Err.ensures.kinds (λ e. c.in_default.not-OutOfMemory (c.kind.ensures ∙ e));
-}
+pub returns-in-Ok-Err-clause-err : goal.returns-in-Ok-Err-clause-err
+returns-in-Ok-Err-clause-err g c =
+    answers_refused (map g.S.AsStr.text c.args.words.now) (app_of c.in_ok-line.line) c.unknown.result c.in_ok-line.ensures
+    c.in-Ok.ensures.kinds
+    (parsed_ok (map g.S.AsStr.text c.args.words.now) (app_of c.in_ok-line.line) c.in-Ok.matches c.in_ok-line.ensures
+    c.in-Ok.ensures.matches c.in-Ok.ensures.kinds ∙ sym c.in-Ok-Err.ensures
+    ∙ ap (λ (r : Result Request Refusal). option_map asked_by (result_ok r)) c.in-Ok-Err.field-0-is)
+    c.unknown.ensures
+
+pub returns-clause-err : goal.returns-clause-err
+returns-clause-err g c =
+    answers_err (map g.S.AsStr.text c.args.words.now) (app_of c.in_ok-line.line) c.in-Err.error c.unmatched.result
+    c.in_ok-line.ensures c.in-Err.ensures.kinds c.unmatched.ensures

@@ -26,9 +26,10 @@ returns-in-Check g c = λ stored.
 
 pub returns-in-Show : goal.returns-in-Show
 returns-in-Show g c = λ stored.
-    same_command c.args.request.reading c.args.request.input_framing c.args.request.limit c.args.request.command (Show c.in-Show.json)
+    same_command c.args.request.reading c.args.request.input_framing c.args.request.limit c.args.request.command (Show c.in-Show.json c.in-Show.color)
     stored _ _ _ c.in-Show.is
-    (ran_show c.args.request.reading c.args.request.input_framing c.args.request.limit c.in-Show.json stored _ _ _ c.show_input.ensures)
+    (ran_show c.args.request.reading c.args.request.input_framing c.args.request.limit c.in-Show.json c.in-Show.color stored _ _ _
+    c.show_input.ensures)
 
 pub returns-in-Convert : goal.returns-in-Convert
 returns-in-Convert g c = λ stored.

@@ -1,0 +1,5 @@
+mod Added
+pub mod ColorLemmas
+mod Colored
+mod Once
+mod Painted

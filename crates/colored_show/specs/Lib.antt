@@ -1,0 +1,3 @@
+pub mod Painting
+pub mod Coloring
+pub mod Handling

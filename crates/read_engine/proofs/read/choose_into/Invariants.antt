@@ -1,0 +1,11 @@
+use Rattle.std.proofs.Common.{Some}
+use Rattle.session_output.specs.Runs.{outputs}
+use Rattle.read_engine.proofs.read.choose_into.Given as goal
+
+abbrev pub ghosts-choose_run : goal.ghosts-choose_run
+ghosts-choose_run g a = record {
+  first = Some a.session;
+  start = outputs (g.W.Output.state a.output.now) (g.N.Output.state a.diagnostics.now);
+  output = a.output.ghost_name;
+  diagnostics = a.diagnostics.ghost_name;
+}

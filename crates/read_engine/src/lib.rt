@@ -1,0 +1,14 @@
+//! What `read` of a store does: of the records that the store holds, those that meet conditions are written, or
+//! the last of them alone, as an archive or as what `convert` and `show` make of it.
+//!
+//! [`read_records`] is the command, over any folder.
+#![tactic(auto)]
+
+mod choosing;
+mod options;
+mod outcome;
+mod read;
+mod record_test;
+
+pub use options::{ReadForm, ReadOptions};
+pub use read::read_records;

@@ -1,0 +1,4 @@
+mod Lists
+mod Choices
+mod Texts
+mod Puts

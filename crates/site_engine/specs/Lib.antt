@@ -1,0 +1,4 @@
+pub mod Exchanges
+pub mod Lines
+pub mod Telling
+pub mod Growing

@@ -1,0 +1,7 @@
+use Rattle.std.proofs.Common.{◌≡◌, ◌++◌, take}
+use Rattle.std.specs.List.{flat_map}
+use Rattle.site_messages.specs.Texts.{part_text}
+use Rattle.site_messages.proofs.part_text.write_parts.Given as goal
+
+abbrev pub invariant-loop-part : goal.invariant-loop-part
+invariant-loop-part l = l.text.items ≡ l.fn.text.items ++ flat_map part_text (take l.part-index l.parts)

@@ -1,0 +1,3 @@
+pub mod Backups
+pub mod Copies
+pub mod Drafts

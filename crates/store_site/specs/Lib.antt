@@ -1,0 +1,4 @@
+pub mod Gatherings
+pub mod Readings
+pub mod Ranges
+pub mod Sites
