@@ -10,6 +10,7 @@ use std::alloc::Global;
 
 // For how long a process that adds to the store is waited for: so many times so many milliseconds.
 const TRIES: usize = 600;
+
 const TRY_MILLIS: i32 = 100;
 
 /// Why nothing could be added.
