@@ -27,7 +27,7 @@ use Rattle.condition_words.specs.Conditions.{ConditionsAsked, conditions_asked, 
 use Rattle.option_values.specs.Numbers.{number_in, size_in}
 use Rattle.option_values.specs.Readings.{reading_in}
 use Rattle.option_values.specs.Values.{is_given_in, optional}
-use Rattle.archive_digest.specs.declared.period.Period.{Period}
+use Rattle.archive_text.specs.declared.period.Period.{Period}
 use Rattle.server_words.specs.Serves.{ServeAsked, serve_asked, serve_in}
 use Rattle.send_engine.specs.Options.{OptionTexts, texts_of}
 use Rattle.driver.specs.declared.limits.ReadLimit.{ReadLimit}

@@ -3,7 +3,7 @@ use Rattle.std.specs.Prelude.{◌≡◌, ◌≢◌, ◌⊎◌, ℕ, List, Option
 use Rattle.octet_devices.specs.Device.{OutputState}
 use Rattle.driver.specs.Devices.{Reports}
 use Rattle.driver.specs.declared.status.TheConstants.{DONE, FAULT, NO_MEMORY}
-use Rattle.set_engine.specs.Ended.{Tells, TellsLine}
+use Rattle.driver.specs.Ended.{Tells, TellsLine}
 use Rattle.store_engine.specs.Reading.{read_telling}
 use Rattle.store_site.specs.declared.fault.SetReadFault.{SetReadFault}
 use Rattle.store_site.specs.declared.fault.SetReadFault.TheVariants.{Read, NoArchive, TooMuch, Memory}

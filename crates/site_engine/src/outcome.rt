@@ -2,7 +2,7 @@
 
 ghost use Rattle.std.specs.Prelude.{◌≡◌, ◌⊎◌, IfOk, List, ℕ};
 ghost use Rattle.driver.specs.declared.status.TheConstants.{FAULT, NO_MEMORY};
-ghost use Rattle.set_engine.specs.Ended.{TellsLine};
+ghost use Rattle.driver.specs.Ended.{TellsLine};
 ghost use Rattle.site_engine.specs.Lines.{answer_line, summary_line, summary_status};
 ghost use Rattle.site_engine.specs.Telling.{TellsFault, TellsOther};
 

@@ -1,6 +1,6 @@
-//! How long the periods of a digest are.
+//! How long the periods of an archive are.
 
-/// How long the periods of a digest are, in UTC.
+/// How long the periods are by which the entries of an archive are told apart, in UTC.
 #[derive(Clone, Copy, Debug, PartialEq, Eq)]
 pub enum Period {
     /// A month, such as `2026-11`.

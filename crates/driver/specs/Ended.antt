@@ -1,4 +1,4 @@
--- How a command on archives as sets ends.
+-- How a command ends that a fault may stop.
 use Rattle.std.specs.Prelude.{◌≡◌, ◌⊎◌, ℕ, List, Option, None, Some, codes}
 use Rattle.octet_devices.specs.Device.{OutputState}
 use Rattle.driver.specs.Devices.{Reports}

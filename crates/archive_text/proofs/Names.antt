@@ -10,10 +10,10 @@ use Rattle.syslog_value.proofs.CivilTimes.{civil-injective}
 use Rattle.syslog_fields.specs.Canonical.{civil_text}
 use Rattle.syslog_fields.specs.Time.{padded}
 use Rattle.archive_text.specs.Entries.{InstantBelow}
-use Rattle.archive_digest.specs.Periods.{IsPeriodOf, name_length}
-use Rattle.archive_digest.specs.declared.period.Period.{Period}
-use Rattle.archive_digest.specs.declared.period.Period.TheVariants.{Month, Day, Hour}
-use Rattle.archive_digest.proofs.Civils.{key, key_rises}
+use Rattle.archive_text.specs.Periods.{IsPeriodOf, name_length}
+use Rattle.archive_text.specs.declared.period.Period.{Period}
+use Rattle.archive_text.specs.declared.period.Period.TheVariants.{Month, Day, Hour}
+use Rattle.archive_text.proofs.Civils.{key, key_rises}
 use Rattle.syslog_fields.proofs.Times.{two_shown}
 use Rattle.syslog_value.proofs.DayNumbers.{month_most}
 

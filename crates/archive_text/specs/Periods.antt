@@ -2,8 +2,8 @@
 use Rattle.std.specs.Prelude.{◌≡◌, ℕ, ℤ, List, Option, None, Some, codes, take}
 use Rattle.syslog_fields.specs.Canonical.{TimeForm}
 use Rattle.archive_text.specs.Entries.{Entry}
-use Rattle.archive_digest.specs.declared.period.Period.{Period}
-use Rattle.archive_digest.specs.declared.period.Period.TheVariants.{Month, Day, Hour}
+use Rattle.archive_text.specs.declared.period.Period.{Period}
+use Rattle.archive_text.specs.declared.period.Period.TheVariants.{Month, Day, Hour}
 
 -- how many octets of a canonical timestamp name the period: YYYY-MM, YYYY-MM-DD or YYYY-MM-DDThh
 abbrev pub name_length : Period → ℕ

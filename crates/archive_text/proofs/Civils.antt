@@ -7,8 +7,8 @@ use Rattle.syslog_value.specs.Calendar.{day_number}
 use Rattle.syslog_value.specs.Instants.{HasDate, IsCivil, instant_of, second_of_day}
 use Rattle.syslog_value.specs.declared.civil.Civil.{Civil}
 use Rattle.syslog_value.proofs.DayNumbers.{day_number-same, month_length-same, month_most}
-use Rattle.archive_digest.specs.declared.period.Period.{Period}
-use Rattle.archive_digest.specs.declared.period.Period.TheVariants.{Month, Day, Hour}
+use Rattle.archive_text.specs.declared.period.Period.{Period}
+use Rattle.archive_text.specs.declared.period.Period.TheVariants.{Month, Day, Hour}
 
 -- the fields that name a period, as one number
 abbrev pub key : Period → Civil → ℕ
