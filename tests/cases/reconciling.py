@@ -197,10 +197,7 @@ WAYS = [
 
 def told_of_way(tried, name, outcome, asks, answers, lacks, has_more):
     """The statuses and the lines: what was sent, what would be, or what is not taken."""
-    if "--read-only" in answers and "--pull" not in asks and "--push" in asks:
-        tried.ended(name, outcome, 2)
-        tried.results.check(f"{name}: told", b"takes no records" in outcome.asked, str(outcome.asked))
-    elif "--dry-run" in asks:
+    if "--dry-run" in asks:
         tried.ended(name, outcome)
         seen, pulls, pushes = told_traffic(outcome.asked, WOULD), "--push" not in asks, "--pull" not in asks
         right = (lacks if pushes else 0, has_more if pulls else 0)

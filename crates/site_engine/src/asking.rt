@@ -70,10 +70,6 @@ fn ask<S: RangedSet, R: Input + Drop, W: Output + Drop>(
     let mut pipe = PipePeer::new(alloc, input, output, exchange.room);
     pipe.greet()?;
     let takes = !pipe.is_read_only();
-    if !takes && !exchange.does_pull() {
-        pipe.finish()?;
-        return Err(SiteFault::TakesNone);
-    }
     let mut peer = Directed::new(pipe, takes && exchange.does_push() && !exchange.is_dry);
     match reconcile_ranges(alloc, own, &mut peer, ranges.as_slice()) {
         Ok(()) => {}

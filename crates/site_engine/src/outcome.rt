@@ -51,13 +51,13 @@ pub(crate) fn report_answer<N: Output>(alloc: Global, summary: &Summary, diagnos
 // The line on a pipe that failed, or on what the other site says.
 fn pipe_line(fault: PipeFault) -> &'static [u8] {
     match fault {
-        PipeFault::Input => b"the peer cannot be read from\n",
-        PipeFault::Output => b"the peer cannot be written to\n",
-        PipeFault::Ended => b"the peer ended the exchange\n",
-        PipeFault::Failed => b"the peer failed\n",
-        PipeFault::Refused => b"the peer takes no records\n",
-        PipeFault::Version => b"the peer does not speak version 1 of the exchange\n",
-        PipeFault::Lied => b"the peer's answer cannot be so\n",
+        PipeFault::Input => b"the other site cannot be read from\n",
+        PipeFault::Output => b"the other site cannot be written to\n",
+        PipeFault::Ended => b"the other site ended the exchange\n",
+        PipeFault::Failed => b"the other site failed\n",
+        PipeFault::Refused => b"the other site takes no records\n",
+        PipeFault::Version => b"the other site does not speak version 1 of the exchange\n",
+        PipeFault::Lied => b"what the other site says cannot be so\n",
         PipeFault::TooMuch => b"more came than there is room for\n",
         PipeFault::Own(SetFault::Failed) => b"store fault\n",
         PipeFault::Own(SetFault::Memory) | PipeFault::Memory => NO_MEMORY_LINE,
@@ -68,7 +68,7 @@ fn pipe_line(fault: PipeFault) -> &'static [u8] {
 fn stopped_line(stopped: Stopped) -> &'static [u8] {
     match stopped {
         Stopped::Broken => b"the connection failed\n",
-        Stopped::Lied => b"the peer's answer cannot be so\n",
+        Stopped::Lied => b"what the other site says cannot be so\n",
         Stopped::TooMany => b"too many requests\n",
         Stopped::TooMuch => b"more came than there is room for\n",
         Stopped::Own(SetFault::Failed) => b"store fault\n",
@@ -90,7 +90,6 @@ fn fault_line(fault: &SiteFault) -> &'static [u8] {
         SiteFault::Pipe(fault) => pipe_line(*fault),
         SiteFault::Stopped(stopped) => stopped_line(*stopped),
         SiteFault::Add(fault) => add_line(fault),
-        SiteFault::TakesNone => b"the peer takes no records\n",
         SiteFault::Set(SetReadFault::TooMuch) => b"more records than there is room for\n",
         SiteFault::Set(SetReadFault::Read(_)) | SiteFault::Set(SetReadFault::NoArchive) => {
             b"store fault\n"

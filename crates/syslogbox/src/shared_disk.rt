@@ -98,6 +98,11 @@ impl<'d> SharedDisk<'d> {
         if self.turn.is_some() {
             return Ok(());
         }
+        // who was refused once is not kept waiting again
+        if self.refused.is_some() {
+            self.has_failed = true;
+            return Err(DiskFault::Failed);
+        }
         match self.opened() {
             Ok(disk) => {
                 self.turn = Some(disk);
