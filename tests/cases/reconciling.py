@@ -385,6 +385,33 @@ def silent(tried):
     tried.stores.drop(store)
 
 
+def dripping(tried):
+    """A site whose message drips in, an octet every third of a second, is not waited for much longer than one that says nothing."""
+    store = tried.stores.of(Random("dripping"), some(Random("dripping"), KINDS[3], 100))
+    said = {"reconcile": b"syslogbox answer 1\nparts 9", "answer": b"syslogbox reconcile 1\nparts 16\nrange - 0  "}
+    for command, octets in said.items():
+        begun = time.monotonic()
+        words = [tried.program.path, command, str(store), "--timeout", str(TIMEOUT)]
+        process = subprocess.Popen(words, stdin=subprocess.PIPE, stdout=subprocess.PIPE, stderr=subprocess.PIPE)
+        drops = itertools.chain(octets, itertools.repeat(ord("9")))
+        while process.poll() is None and time.monotonic() < begun + 30:
+            try:
+                process.stdin.write(bytes([next(drops)]))
+                process.stdin.flush()
+            except OSError:
+                break
+            time.sleep(0.33)
+        try:
+            status = process.wait(1)
+        except subprocess.TimeoutExpired:
+            process.kill()
+            status = "not ended"
+        took, (_, notes) = time.monotonic() - begun, process.communicate()
+        tried.results.check(f"{command} beside a site that drips: status 2", status == 2 and b"silent" in notes, f"{status} {notes}")
+        tried.results.check(f"{command} beside a site that drips: when", took <= 2 * TIMEOUT + 8, f"{took:.1f} s")
+    tried.stores.drop(store)
+
+
 def gone(tried):
     """A site whose other one has gone, at once or in the middle: status 2, and it is told."""
     store = tried.stores.of(Random("gone"), some(Random("gone"), KINDS[3], 100))
@@ -434,7 +461,7 @@ def own_sites(tried, seed):
 def reconciling(program, results):
     for case in [lambda tried: own_sites(tried, SEED), lambda tried: pairs(tried, SEED, PAIRS), lambda tried: large_pairs(tried, SEED, LARGE),
                  much, few_differ, lambda tried: ranges(tried, SEED), lambda tried: ways(tried, SEED), room, usage, folders, damaged, is_full,
-                 silent, gone, over_two_way]:
+                 silent, dripping, gone, over_two_way]:
         with tempfile.TemporaryDirectory() as path:
             case(Sites(program, results, path))
     with tempfile.TemporaryDirectory() as path:

@@ -75,7 +75,7 @@ fn explain<N: Output>(
 // Reports that the other site was silent for too long, where it was. Returns the exit status.
 fn explain_silence<N: Output>(
     alloc: Global,
-    patience: &Patience,
+    patience: &Patience<'_>,
     seconds: u32,
     status: u8,
     diagnostics: &mut N,
@@ -97,7 +97,7 @@ fn octets_of(mib: u32) -> u64 {
 // Standard input and output as the pipe to the other site.
 fn pipe<'p>(
     rt: &HostRuntime,
-    patience: &'p Patience,
+    patience: &'p Patience<'p>,
 ) -> (FromRead<TimedInput<'p>>, ToWrite<TimedOutput<'p>>) {
     let input = TimedInput {
         stdin: rt.stdin(),
@@ -116,7 +116,7 @@ fn ask<N: Output>(
     alloc: Global,
     dir: &str,
     exchange: &Exchange,
-    patience: &Patience,
+    patience: &Patience<'_>,
     diagnostics: &mut N,
 ) -> u8 {
     let adds = exchange.pulls && !exchange.is_dry;
@@ -154,7 +154,7 @@ pub fn reconcile(rt: &HostRuntime, alloc: Global, dir: &str, words: &ReconcileWo
         is_dry: words.dry_run,
         room: octets_of(words.room_mib),
     };
-    let patience = Patience::new(words.timeout_seconds);
+    let patience = Patience::new(rt, words.timeout_seconds);
     let status = ask(rt, alloc, dir, &exchange, &patience, &mut diagnostics);
     explain_silence(
         alloc,
@@ -171,7 +171,7 @@ fn answer_on<N: Output>(
     alloc: Global,
     dir: &str,
     words: &AnswerWords,
-    patience: &Patience,
+    patience: &Patience<'_>,
     diagnostics: &mut N,
 ) -> u8 {
     let mut folder = match open_store(rt, alloc, dir, !words.read_only, diagnostics) {
@@ -201,7 +201,7 @@ fn answer_on<N: Output>(
 /// where the other site ended the exchange, else that of a fault.
 pub fn answer(rt: &HostRuntime, alloc: Global, dir: &str, words: &AnswerWords) -> u8 {
     let mut diagnostics = ToWrite::new(rt.stderr());
-    let patience = Patience::new(words.timeout_seconds);
+    let patience = Patience::new(rt, words.timeout_seconds);
     let status = answer_on(rt, alloc, dir, words, &patience, &mut diagnostics);
     explain_silence(
         alloc,
