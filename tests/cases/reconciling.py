@@ -198,10 +198,11 @@ WAYS = [
 def told_of_way(tried, name, outcome, asks, answers, lacks, has_more):
     """The statuses and the lines: what was sent, what would be, or what is not taken."""
     if "--dry-run" in asks:
-        tried.ended(name, outcome)
-        seen, pulls, pushes = told_traffic(outcome.asked, WOULD), "--push" not in asks, "--pull" not in asks
-        right = (lacks if pushes else 0, has_more if pulls else 0)
+        seen, pulls, pushes, takes = told_traffic(outcome.asked, WOULD), "--push" not in asks, "--pull" not in asks, not answers
+        tried.ended(name, outcome, 0 if takes else 1)
+        right = (lacks if pushes and takes else 0, has_more if pulls else 0)
         tried.results.check(f"{name}: told", seen and (seen.sent, seen.got) == right, f"{outcome.asked} for {right}")
+        tried.results.check(f"{name}: not taken", takes or b"%d records not taken" % lacks in outcome.asked, str(outcome.asked))
     elif "--read-only" in answers and asks != ["--pull"]:
         tried.ended(name, outcome, 1)
         right = b"%d records not taken" % lacks

@@ -126,12 +126,13 @@ fn ask_in_memory<R: Input + Drop, W: Output + Drop>(
         return Ok(summary);
     }
     let after = amount_in(alloc, &mut set)?;
+    let takes = !peer.peer.is_read_only();
     Ok(Summary {
         requests: summary.requests,
-        sent: amount_if(exchange.does_push(), peer.held_back),
+        sent: amount_if(takes && exchange.does_push(), peer.held_back),
         got: amount_if(exchange.does_pull(), difference(after, before)),
         is_dry: true,
-        not_taken: 0,
+        not_taken: if takes { 0 } else { summary.not_taken },
     })
 }
 

@@ -56,9 +56,10 @@ fn pipe_line(fault: PipeFault) -> &'static [u8] {
         PipeFault::Ended => b"the other site ended the exchange\n",
         PipeFault::Failed => b"the other site failed\n",
         PipeFault::Refused => b"the other site takes no records\n",
-        PipeFault::Version => b"the other site does not speak version 1 of the exchange\n",
+        PipeFault::Version =>
+            b"the other site does not speak version 1 of the exchange: does its shell print something first?\n",
         PipeFault::Lied => b"what the other site says cannot be so\n",
-        PipeFault::TooMuch => b"more came than there is room for\n",
+        PipeFault::TooMuch => b"more came than --room allows\n",
         PipeFault::Own(SetFault::Failed) => b"store fault\n",
         PipeFault::Own(SetFault::Memory) | PipeFault::Memory => NO_MEMORY_LINE,
     }
@@ -70,7 +71,7 @@ fn stopped_line(stopped: Stopped) -> &'static [u8] {
         Stopped::Broken => b"the connection failed\n",
         Stopped::Lied => b"what the other site says cannot be so\n",
         Stopped::TooMany => b"too many requests\n",
-        Stopped::TooMuch => b"more came than there is room for\n",
+        Stopped::TooMuch => b"more came than --room allows\n",
         Stopped::Own(SetFault::Failed) => b"store fault\n",
         Stopped::Own(SetFault::Memory) | Stopped::Memory => NO_MEMORY_LINE,
     }

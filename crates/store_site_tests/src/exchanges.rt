@@ -233,7 +233,7 @@ fn an_answer_that_cannot_be_so_is_told(rt: HostRuntime) -> Result<(), Fail> {
         ),
         (
             b"syslogbox answer 2\n",
-            b"the other site does not speak version 1 of the exchange\n",
+            b"the other site does not speak version 1 of the exchange: does its shell print something first?\n",
         ),
         (
             b"syslogbox answer 1\n",

@@ -11,7 +11,11 @@ use itoa::Buffer;
 use octet_devices::{FromRead, Output, ToWrite};
 use site_engine::{Exchange, answer_read_only, answer_store, compare_store, reconcile_store};
 use std::alloc::{AllocError, Global};
+use std::io::IsTerminal;
 use store_engine::{SystemFolder, report_file_error, report_no_store};
+
+const NO_SITE: &[u8] =
+    b"standard input is a terminal, and not another site: connect reconcile and answer by a pipe\n";
 
 // How many octets a MiB has.
 const MIB: u64 = 1 << 20;
@@ -154,6 +158,9 @@ pub fn reconcile(rt: &HostRuntime, alloc: Global, dir: &str, words: &ReconcileWo
         is_dry: words.dry_run,
         room: octets_of(words.room_mib),
     };
+    if rt.stdin().is_terminal() {
+        return report(&mut diagnostics, NO_SITE, FAULT);
+    }
     let patience = Patience::new(rt, words.timeout_seconds);
     let status = ask(rt, alloc, dir, &exchange, &patience, &mut diagnostics);
     explain_silence(
@@ -201,6 +208,9 @@ fn answer_on<N: Output>(
 /// where the other site ended the exchange, else that of a fault.
 pub fn answer(rt: &HostRuntime, alloc: Global, dir: &str, words: &AnswerWords) -> u8 {
     let mut diagnostics = ToWrite::new(rt.stderr());
+    if rt.stdin().is_terminal() {
+        return report(&mut diagnostics, NO_SITE, FAULT);
+    }
     let patience = Patience::new(rt, words.timeout_seconds);
     let status = answer_on(rt, alloc, dir, words, &patience, &mut diagnostics);
     explain_silence(
