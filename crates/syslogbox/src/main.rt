@@ -7,6 +7,7 @@ mod collect;
 mod colors;
 mod columns;
 mod copies;
+mod copy_disk;
 mod descriptors;
 mod disk_files;
 mod entries;

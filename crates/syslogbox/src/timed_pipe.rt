@@ -17,13 +17,14 @@ const TRIES: usize = 1000;
 const OCTETS_A_SECOND: usize = 1000;
 
 /// For how long the other site is waited for, and whether it was waited for in vain. A message may begin so late; what
-/// comes of it pays for the wait for the rest, so that one that drips in comes to an end.
+/// comes or goes of it pays for the wait for the rest, so that one that drips comes to an end.
 #[derive(Drop)]
 pub struct Patience<'r> {
     rt: &'r HostRuntime,
     millis: i32,
-    // what is left of that for the message that comes
-    left: Cell<i32>,
+    // what is left of that for the message that comes, and for the one that goes
+    to_read: Cell<i32>,
+    to_write: Cell<i32>,
     has_ended: Cell<bool>,
 }
 
@@ -45,7 +46,8 @@ impl<'r> Patience<'r> {
         Patience {
             rt,
             millis,
-            left: Cell::new(millis),
+            to_read: Cell::new(millis),
+            to_write: Cell::new(millis),
             has_ended: Cell::new(false),
         }
     }
@@ -75,27 +77,31 @@ impl<'r> Patience<'r> {
         Err(io::Error::new(ErrorKind::TimedOut, "the other site is silent"))
     }
 
-    // Waits for octets of the message that comes, for as long as is left for it.
-    fn wait_to_read(&self) -> io::Result<()> {
+    // Waits for a descriptor for as long as is left of a time, which the wait takes from it.
+    fn wait_within(&self, fd: i32, events: i16, left: &Cell<i32>) -> io::Result<()> {
         let begun = Instant::now(self.rt).ok();
-        let left = self.left.get();
-        self.wait_for(STDIN_FILENO, POLLIN, left)?;
-        self.left
-            .set(left.saturating_sub(millis_since(self.rt, begun)).max(0));
+        self.wait_for(fd, events, left.get())?;
+        let passed = millis_since(self.rt, begun);
+        left.set(left.get().saturating_sub(passed).max(0));
         Ok(())
     }
 
-    // So many octets of the message have come.
-    fn note_read(&self, count: usize) {
-        let paid = i32::try_from(count.saturating_mul(1000) / OCTETS_A_SECOND).unwrap_or(i32::MAX);
-        self.left
-            .set(self.left.get().saturating_add(paid).min(self.millis));
+    // Waits for octets of the message that comes. What is said behind it is another message.
+    fn wait_to_read(&self) -> io::Result<()> {
+        self.to_write.set(self.millis);
+        self.wait_within(STDIN_FILENO, POLLIN, &self.to_read)
     }
 
-    // Waits until octets can be written. What the other site says then is another message.
+    // Waits until octets of the message that goes can be written. What comes behind it is another message.
     fn wait_to_write(&self) -> io::Result<()> {
-        self.left.set(self.millis);
-        self.wait_for(STDOUT_FILENO, POLLOUT, self.millis)
+        self.to_read.set(self.millis);
+        self.wait_within(STDOUT_FILENO, POLLOUT, &self.to_write)
+    }
+
+    // So many octets of a message have come or gone, which pays for the wait for the rest.
+    fn pay(&self, left: &Cell<i32>, count: usize) {
+        let paid = i32::try_from(count.saturating_mul(1000) / OCTETS_A_SECOND).unwrap_or(i32::MAX);
+        left.set(left.get().saturating_add(paid).min(self.millis));
     }
 }
 
@@ -110,7 +116,7 @@ impl<'p> Read for TimedInput<'p> {
     fn read(&mut self, buf: &mut [u8]) -> io::Result<usize> {
         self.patience.wait_to_read()?;
         let count = self.stdin.read(buf)?;
-        self.patience.note_read(count);
+        self.patience.pay(&self.patience.to_read, count);
         Ok(count)
     }
 }
@@ -126,7 +132,9 @@ impl<'p> Write for TimedOutput<'p> {
     fn write(&mut self, buf: &[u8]) -> io::Result<usize> {
         self.patience.wait_to_write()?;
         let piece = buf.get(..PIECE_MAX).unwrap_or(buf);
-        self.stdout.write(piece)
+        let count = self.stdout.write(piece)?;
+        self.patience.pay(&self.patience.to_write, count);
+        Ok(count)
     }
 
     fn flush(&mut self) -> io::Result<()> {
