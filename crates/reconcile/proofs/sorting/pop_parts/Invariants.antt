@@ -8,7 +8,7 @@ use Rattle.reconcile.specs.Reconciling.{Going}
 use Rattle.reconcile.specs.Requests.{allowance}
 use Rattle.reconcile.specs.declared.range.Range.{Range}
 use Rattle.reconcile.specs.declared.part.Part.{Part}
-use Rattle.reconcile.proofs.sorting.sort_parts.Given as goal
+use Rattle.reconcile.proofs.sorting.pop_parts.Given as goal
 
 abbrev pub invariant-sorting : goal.invariant-sorting
 invariant-sorting g l =

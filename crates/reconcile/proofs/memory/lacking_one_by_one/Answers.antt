@@ -4,7 +4,7 @@ use Rattle.std.proofs.lemmas.List.{take_more}
 use Rattle.archive_text.specs.Entries.{Entry, Has, IsAscending}
 use Rattle.reconcile.specs.Ranges.{AreThose, Covers}
 use Rattle.reconcile.proofs.Found.{taken_ascending, those_kept, those_skipped}
-use Rattle.reconcile.proofs.memory.lacking.Goals as goal
+use Rattle.reconcile.proofs.memory.lacking_one_by_one.Goals as goal
 
 abbrev Lacks : List Entry → (Entry → Type 0) → Entry → Type 0
 Lacks others P x = P x × ¬ (Has others x)
