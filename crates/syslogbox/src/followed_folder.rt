@@ -6,8 +6,17 @@ ghost use Rattle.folder_disk.specs.Folders.{untold};
 use disk::{Disk, DiskFault, FileName};
 use folder_disk::{Access, FileError, FolderPath, open_regular};
 use std::alloc::{AllocError, Global};
-use std::fs::File;
+use std::fs::{self, File};
 use std::io::{self, ErrorKind, Read, Seek, SeekFrom};
+use std::os::unix::fs::MetadataExt;
+
+// A file that is open, and which one it is, as the system tells.
+#[derive(Drop)]
+struct OpenFile {
+    name: FileName,
+    file: File,
+    id: (u64, u64),
+}
 
 /// A folder that is read alone: nothing in it is made, changed or locked. A folder that is not there has no files
 /// yet. The file that was read last stays open, so that it can be read to its end once its name is gone.
@@ -15,7 +24,7 @@ use std::io::{self, ErrorKind, Read, Seek, SeekFrom};
 pub struct FollowedFolder<'r> {
     rt: &'r HostRuntime,
     path: FolderPath,
-    open: Option<(FileName, File)>,
+    open: Option<OpenFile>,
     last_error: Option<FileError>,
     has_failed: bool,
 }
@@ -82,19 +91,37 @@ impl<'r> FollowedFolder<'r> {
         )
     }
 
+    // Whether the file of a name is open, and still has that name or none has. A server may write a journal anew, under
+    // its old name.
+    fn is_open(&self, name: &FileName, path: &str) -> io::Result<bool> {
+        let Some(open) = &self.open else {
+            return Ok(false);
+        };
+        if open.name.as_octets() != name.as_octets() {
+            return Ok(false);
+        }
+        match fs::symlink_metadata(self.rt, path) {
+            Ok(found) => Ok((found.dev(), found.ino()) == open.id),
+            Err(error) if error.kind() == ErrorKind::NotFound => Ok(true),
+            Err(error) => Err(error),
+        }
+    }
+
     // Opens the file of a name, unless it is the one that is open.
     fn open_file(&mut self, name: &FileName) -> io::Result<()>
         ensures stays { self.new.has_failed ≡ self.old.has_failed }
     {
-        if let Some((open, _)) = &self.open
-            && open.as_octets() == name.as_octets()
-        {
+        let path = self.path.of_file(name)?;
+        if self.is_open(name, path.as_str())? {
             return Ok(());
         }
-        let path = self.path.of_file(name)?;
-        let opened = open_regular(self.rt, path.as_str(), Access::Read)?;
-        let name = name.copy(self.rt.alloc())?;
-        self.open = Some((name, opened.file));
+        let file = open_regular(self.rt, path.as_str(), Access::Read)?.file;
+        let found = file.metadata()?;
+        self.open = Some(OpenFile {
+            name: name.copy(self.rt.alloc())?,
+            file,
+            id: (found.dev(), found.ino()),
+        });
         Ok(())
     }
 
@@ -105,7 +132,7 @@ impl<'r> FollowedFolder<'r> {
     {
         self.open_file(name)?;
         match &mut self.open {
-            Some((_, file)) => read_from(file, at, buf),
+            Some(open) => read_from(&mut open.file, at, buf),
             None => Err(ErrorKind::NotFound.into()),
         }
     }
