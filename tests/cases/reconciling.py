@@ -4,6 +4,7 @@ import itertools
 import os
 import subprocess
 import tempfile
+import threading
 import time
 from random import Random
 
@@ -12,8 +13,8 @@ from lib.program import ROOT
 from lib.reference import LEAST, archive_text, instant
 from lib.results import difference
 from lib.site_stores import KINDS, LARGE_KINDS, Stores, apart, beyond_frames, in_turn, records_of, some, undated
-from lib.sites import (ALL, ANSWERED, FIRST, WOULD, Answerer, Asker, Site, Wrong, answering, asking, exchange, place_of, referee, speaking,
-                       told_traffic)
+from lib.sites import (ALL, ANSWERED, FIRST, WOULD, Answerer, Asker, Site, Wrong, answering, asking, exchange, place_of, reconciled, referee,
+                       speaking, told_traffic)
 
 SEED = 42
 SIZES = [0, 1, 2, 3, 16, 17, 63, 64, 65, 130, 400, 1_025, 2_000]
@@ -358,6 +359,30 @@ def meets_again(tried, name, stores, union):
 
 # ---------------------------------------------------------------- silence
 
+def both_ask(tried):
+    """Two sites that ask each other at the same time: neither keeps the other waiting for the turn to add."""
+    random = Random("both ask")
+    ours, theirs = ([b"<14>1 2026-11-%02dT10:00:00.000000Z %b a - - - %d" % (1 + n % 12, host, n) for n in range(1_500)] for host in (b"a", b"b"))
+    for turn in range(3):
+        one, other = tried.stores.of(random, ours), tried.stores.of(random, theirs)
+        seen = {}
+
+        def ask(name, asks, answers):
+            seen[name] = reconciled(tried.program, asks, answers, ["--timeout", "20"], ["--timeout", "20"])
+
+        sites = [threading.Thread(target=ask, args=args) for args in (("one", one, other), ("other", other, one))]
+        for site in sites:
+            site.start()
+        for site in sites:
+            site.join()
+        for name, outcome in seen.items():
+            tried.ended(f"both ask, {turn}: {name}", outcome)
+        union = set(ours) | set(theirs)
+        for store in one, other:
+            tried.holds(f"both ask, {turn}", store, union)
+        tried.stores.drop(one, other)
+
+
 def silent(tried):
     """A site that says nothing is waited for as long as was asked: status 2; so is one that takes nothing."""
     store = tried.stores.of(Random("silent"), some(Random("silent"), KINDS[3], 100))
@@ -462,7 +487,7 @@ def own_sites(tried, seed):
 def reconciling(program, results):
     for case in [lambda tried: own_sites(tried, SEED), lambda tried: pairs(tried, SEED, PAIRS), lambda tried: large_pairs(tried, SEED, LARGE),
                  much, few_differ, lambda tried: ranges(tried, SEED), lambda tried: ways(tried, SEED), room, usage, folders, damaged, is_full,
-                 silent, dripping, gone, over_two_way]:
+                 both_ask, silent, dripping, gone, over_two_way]:
         with tempfile.TemporaryDirectory() as path:
             case(Sites(program, results, path))
     with tempfile.TemporaryDirectory() as path:
