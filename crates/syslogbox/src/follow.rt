@@ -197,11 +197,11 @@ impl<'r, 'c> Run<'r, 'c> {
 /// Writes the records that are committed to the store in a folder and that meet conditions, as they come. Returns the
 /// exit status: 0 where standard input has ended, if that is to end it; 1 where a journal is damaged; else that of a
 /// fault.
-pub fn follow<W: Output, N: Output>(
+pub fn follow<'c, W: Output, N: Output>(
     rt: &HostRuntime,
     alloc: Global,
-    dir: &str,
-    conditions: &Conditions<'_>,
+    dir: &'c str,
+    conditions: &'c Conditions<'c>,
     words: FollowWords,
     output: &mut W,
     diagnostics: &mut N,
