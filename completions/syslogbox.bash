@@ -36,6 +36,10 @@ _syslogbox_options() {
             echo "--from --to --undated --only-undated --severity --facility --host --app --proc --msgid --id"
             echo "--message --host-like --app-like --not-host --not-app --not-message --last --as --color --help"
             ;;
+        follow)
+            echo "--from --to --undated --only-undated --severity --facility --host --app --proc --msgid --id"
+            echo "--message --host-like --app-like --not-host --not-app --not-message --from-start --until-eof --help"
+            ;;
         expire)
             echo "--before --keep --undated --dry-run --quiet --help"
             ;;
@@ -71,11 +75,14 @@ _syslogbox_value() {
         "select --not-message" | "count --by" | "count --top" | "read --from" | "read --to" | "read --host" | \
         "read --app" | "read --proc" | "read --msgid" | "read --id" | "read --message" | "read --host-like" | \
         "read --app-like" | "read --not-host" | "read --not-app" | "read --not-message" | "read --last" | \
-        "expire --before" | "expire --keep" | "reconcile --from" | "reconcile --to" | "reconcile --room" | \
-        "reconcile --timeout" | "answer --room" | "answer --timeout" | "send --host" | "send --app" | \
-        "send --proc" | "send --msgid" | "send --micros" | "collect --legacy" | "collect --zone" | "serve --udp" | \
-        "serve --counted" | "serve --lf" | "serve --allow" | "serve --connections" | "serve --per-peer" | \
-        "serve --idle" | "serve --commit" | "serve --checkpoint" | "serve --legacy" | "serve --zone")
+        "follow --from" | "follow --to" | "follow --host" | "follow --app" | "follow --proc" | "follow --msgid" | \
+        "follow --id" | "follow --message" | "follow --host-like" | "follow --app-like" | "follow --not-host" | \
+        "follow --not-app" | "follow --not-message" | "expire --before" | "expire --keep" | "reconcile --from" | \
+        "reconcile --to" | "reconcile --room" | "reconcile --timeout" | "answer --room" | "answer --timeout" | \
+        "send --host" | "send --app" | "send --proc" | "send --msgid" | "send --micros" | "collect --legacy" | \
+        "collect --zone" | "serve --udp" | "serve --counted" | "serve --lf" | "serve --allow" | \
+        "serve --connections" | "serve --per-peer" | "serve --idle" | "serve --commit" | "serve --checkpoint" | \
+        "serve --legacy" | "serve --zone")
             echo "text"
             ;;
         "show --dialect" | "check --dialect" | "convert --dialect" | "archive --dialect" | "collect --dialect" | \
@@ -91,10 +98,10 @@ _syslogbox_value() {
         "archive --spill")
             echo "folder"
             ;;
-        "select --severity" | "read --severity" | "send --severity" | "send --up-to")
+        "select --severity" | "read --severity" | "follow --severity" | "send --severity" | "send --up-to")
             echo "words emerg alert crit err warning notice info debug"
             ;;
-        "select --facility" | "read --facility" | "send --facility")
+        "select --facility" | "read --facility" | "follow --facility" | "send --facility")
             echo "words kern user mail daemon auth syslog lpr news uucp cron authpriv ftp ntp audit alert clock"
             echo "local0 local1 local2 local3 local4 local5 local6 local7"
             ;;
@@ -119,8 +126,8 @@ _syslogbox_place() {
         "merge "* | "migrate "* | "union "* | "common "* | "minus "* | "diff "* | "prove "* | "confirm 3")
             echo "file"
             ;;
-        "read "* | "verify "* | "stat "* | "compact "* | "add "* | "expire "* | "reconcile "* | "answer "* | \
-        "backup "* | "serve "*)
+        "read "* | "follow "* | "verify "* | "stat "* | "compact "* | "add "* | "expire "* | "reconcile "* | \
+        "answer "* | "backup "* | "serve "*)
             echo "folder"
             ;;
         "collect 1")
@@ -131,7 +138,7 @@ _syslogbox_place() {
 
 _syslogbox() {
     local command=${COMP_WORDS[1]} word=$2 previous=$3 kind="" action="" words=""
-    local commands="show check convert archive merge migrate union common minus diff select digest count root prove confirm read verify stat compact add expire reconcile answer backup send collect serve help"
+    local commands="show check convert archive merge migrate union common minus diff select digest count root prove confirm read follow verify stat compact add expire reconcile answer backup send collect serve help"
     if [ "$COMP_CWORD" -eq 1 ]; then
         words="$commands --help --version"
     elif [ "$command" = help ]; then

@@ -39,7 +39,7 @@ from lib.side_by_side import Parts, cores, python
 
 # the parts that run side by side, those that take longest first; each is a module of cases/ with a function of its name
 SIDE_BY_SIDE = ["stores", "reconciling", "lying_sites", "libraries", "algebra", "mutated", "serving", "serving_short", "legacy", "bindings", "commands", "verdicts", "archives",
-                "reading", "terminal", "unsafe_folders", "damaged_journals", "damaged_segments", "many_days", "full_pipes", "notes_pace", "sending",
+                "reading", "following", "terminal", "unsafe_folders", "damaged_journals", "damaged_segments", "many_days", "full_pipes", "notes_pace", "sending",
                 "collect", "backing_up", "adding", "expiring", "statistics", "spilling", "counting", "proofs", "scarce_memory", "documents", "sockets", "descriptors", "costs", "auditing"]
 # these run after the others, one after the other: `soak` takes all cores itself, the others measure
 AT_THE_END = ["soak", "colliding_ids", "noisy_senders"]

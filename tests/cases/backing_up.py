@@ -24,6 +24,8 @@ SEED = 42
 COPIED = re.compile(rb"copied (\d+) files (\d+) octets\n")
 LIMITED = ["-c", "trap '' XFSZ; ulimit -f 8; exec \"$@\"", "sh"]  # a disk that takes no file of more than 4 KiB
 KILLS = 20
+UNFINISHED = b"backup.unfinished"
+TOLD = UNFINISHED + b": the copy was not finished, so records may lack\n"
 COPIES = 6  # beside a server
 MOST = 20_000  # records that are sent to it
 
@@ -67,14 +69,18 @@ class Backups:
         text = archive_text(self.held)
         self.results.same(f"{name}: read", self.program.run(["read", str(copy)]), (0, text, b""))
         self.results.same(f"{name}: verify", self.program.run(["verify", str(copy)]), (0, b"", b""))
-        self.results.check(f"{name}: no draft", b"backup.archive" not in files_of(copy))
+        self.results.check(f"{name}: no draft and no mark", not {b"backup.archive", UNFINISHED} & set(files_of(copy)))
         now = {one: octets for one, octets in files_of(self.store).items() if not one.startswith(b"lock")}
         self.results.check(f"{name}: the store is as it was", now == self.files)
 
     def has_part(self, name):
         """Each file of a copy that was not ended is whole; and another folder takes the whole."""
-        found = held(of_copy(self.copy))
+        found, marked = held(of_copy(self.copy)), UNFINISHED in files_of(self.copy)
         self.results.check(f"{name}: whole copies", found is not None and found <= self.held)
+        self.results.check(f"{name}: marked as not finished", marked or found == self.held or not of_copy(self.copy))
+        if marked and of_copy(self.copy):
+            seen = self.program.run(["verify", str(self.copy)])
+            self.results.check(f"{name}: verify tells it", seen[0] == 1 and seen[1].endswith(TOLD), str(seen))
         other = self.path / "other"
         self.is_whole(f"{name}: the next one", self.program.run(["backup", str(self.store), str(other)]), other)
         shutil.rmtree(other)

@@ -4,6 +4,7 @@ import itertools
 import os
 import subprocess
 import tempfile
+import threading
 import time
 from random import Random
 
@@ -12,8 +13,8 @@ from lib.program import ROOT
 from lib.reference import LEAST, archive_text, instant
 from lib.results import difference
 from lib.site_stores import KINDS, LARGE_KINDS, Stores, apart, beyond_frames, in_turn, records_of, some, undated
-from lib.sites import (ALL, ANSWERED, FIRST, WOULD, Answerer, Asker, Site, Wrong, answering, asking, exchange, place_of, referee, speaking,
-                       told_traffic)
+from lib.sites import (ALL, ANSWERED, FIRST, WOULD, Answerer, Asker, Site, Wrong, answering, asking, exchange, place_of, reconciled, referee,
+                       speaking, told_traffic)
 
 SEED = 42
 SIZES = [0, 1, 2, 3, 16, 17, 63, 64, 65, 130, 400, 1_025, 2_000]
@@ -197,14 +198,12 @@ WAYS = [
 
 def told_of_way(tried, name, outcome, asks, answers, lacks, has_more):
     """The statuses and the lines: what was sent, what would be, or what is not taken."""
-    if "--read-only" in answers and "--pull" not in asks and "--push" in asks:
-        tried.ended(name, outcome, 2)
-        tried.results.check(f"{name}: told", b"takes no records" in outcome.asked, str(outcome.asked))
-    elif "--dry-run" in asks:
-        tried.ended(name, outcome)
-        seen, pulls, pushes = told_traffic(outcome.asked, WOULD), "--push" not in asks, "--pull" not in asks
-        right = (lacks if pushes else 0, has_more if pulls else 0)
+    if "--dry-run" in asks:
+        seen, pulls, pushes, takes = told_traffic(outcome.asked, WOULD), "--push" not in asks, "--pull" not in asks, not answers
+        tried.ended(name, outcome, 0 if takes else 1)
+        right = (lacks if pushes and takes else 0, has_more if pulls else 0)
         tried.results.check(f"{name}: told", seen and (seen.sent, seen.got) == right, f"{outcome.asked} for {right}")
+        tried.results.check(f"{name}: not taken", takes or b"%d records not taken" % lacks in outcome.asked, str(outcome.asked))
     elif "--read-only" in answers and asks != ["--pull"]:
         tried.ended(name, outcome, 1)
         right = b"%d records not taken" % lacks
@@ -360,6 +359,30 @@ def meets_again(tried, name, stores, union):
 
 # ---------------------------------------------------------------- silence
 
+def both_ask(tried):
+    """Two sites that ask each other at the same time: neither keeps the other waiting for the turn to add."""
+    random = Random("both ask")
+    ours, theirs = ([b"<14>1 2026-11-%02dT10:00:00.000000Z %b a - - - %d" % (1 + n % 12, host, n) for n in range(1_500)] for host in (b"a", b"b"))
+    for turn in range(3):
+        one, other = tried.stores.of(random, ours), tried.stores.of(random, theirs)
+        seen = {}
+
+        def ask(name, asks, answers):
+            seen[name] = reconciled(tried.program, asks, answers, ["--timeout", "20"], ["--timeout", "20"])
+
+        sites = [threading.Thread(target=ask, args=args) for args in (("one", one, other), ("other", other, one))]
+        for site in sites:
+            site.start()
+        for site in sites:
+            site.join()
+        for name, outcome in seen.items():
+            tried.ended(f"both ask, {turn}: {name}", outcome)
+        union = set(ours) | set(theirs)
+        for store in one, other:
+            tried.holds(f"both ask, {turn}", store, union)
+        tried.stores.drop(one, other)
+
+
 def silent(tried):
     """A site that says nothing is waited for as long as was asked: status 2; so is one that takes nothing."""
     store = tried.stores.of(Random("silent"), some(Random("silent"), KINDS[3], 100))
@@ -385,6 +408,33 @@ def silent(tried):
                 stream.close()
             except OSError:
                 pass
+    tried.stores.drop(store)
+
+
+def dripping(tried):
+    """A site whose message drips in, an octet every third of a second, is not waited for much longer than one that says nothing."""
+    store = tried.stores.of(Random("dripping"), some(Random("dripping"), KINDS[3], 100))
+    said = {"reconcile": b"syslogbox answer 1\nparts 9", "answer": b"syslogbox reconcile 1\nparts 16\nrange - 0  "}
+    for command, octets in said.items():
+        begun = time.monotonic()
+        words = [tried.program.path, command, str(store), "--timeout", str(TIMEOUT)]
+        process = subprocess.Popen(words, stdin=subprocess.PIPE, stdout=subprocess.PIPE, stderr=subprocess.PIPE)
+        drops = itertools.chain(octets, itertools.repeat(ord("9")))
+        while process.poll() is None and time.monotonic() < begun + 30:
+            try:
+                process.stdin.write(bytes([next(drops)]))
+                process.stdin.flush()
+            except OSError:
+                break
+            time.sleep(0.33)
+        try:
+            status = process.wait(1)
+        except subprocess.TimeoutExpired:
+            process.kill()
+            status = "not ended"
+        took, (_, notes) = time.monotonic() - begun, process.communicate()
+        tried.results.check(f"{command} beside a site that drips: status 2", status == 2 and b"silent" in notes, f"{status} {notes}")
+        tried.results.check(f"{command} beside a site that drips: when", took <= 2 * TIMEOUT + 8, f"{took:.1f} s")
     tried.stores.drop(store)
 
 
@@ -437,7 +487,7 @@ def own_sites(tried, seed):
 def reconciling(program, results):
     for case in [lambda tried: own_sites(tried, SEED), lambda tried: pairs(tried, SEED, PAIRS), lambda tried: large_pairs(tried, SEED, LARGE),
                  much, few_differ, lambda tried: ranges(tried, SEED), lambda tried: ways(tried, SEED), room, usage, folders, damaged, is_full,
-                 silent, gone, over_two_way]:
+                 both_ask, silent, dripping, gone, over_two_way]:
         with tempfile.TemporaryDirectory() as path:
             case(Sites(program, results, path))
     with tempfile.TemporaryDirectory() as path:

@@ -1,5 +1,6 @@
 pub mod Tallies
 pub mod WordTexts
+pub mod HeaderTexts
 pub mod WordOrders
 pub mod Texts
 pub mod Tables

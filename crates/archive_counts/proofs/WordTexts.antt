@@ -6,7 +6,6 @@ use Rattle.std.proofs.lemmas.Bool.Decides.{nat_tests}
 use Rattle.std.proofs.lemmas.Grind.{common_steps}
 use Rattle.std.specs.List.{AllByRecursion}
 use Rattle.std.proofs.lemmas.List.{append_cancel_left, take-append-drop, take_all, take_more}
-use Rattle.std.proofs.lemmas.List.Elements.{All-get_or}
 use Rattle.std.proofs.lemmas.List.Concat.{flat_map-append}
 use Rattle.octet_language.specs.Language.{Only}
 use Rattle.octet_language.proofs.Lists.{AllByRecursion-append, AllByRecursion-left, AllByRecursion-weaker, same_until, tails}
@@ -23,13 +22,11 @@ use Rattle.syslog_fields.specs.Canonical.{civil_text, word_form}
 use Rattle.syslog_fields.specs.Appending.{Adds}
 use Rattle.syslog_fields.specs.Time.{padded}
 use Rattle.syslog_fields.proofs.CanonicalTexts.{time_once}
-use Rattle.syslog_reading.specs.ViewParts.{IsViewOf, ViewParts}
-use Rattle.syslog_reading.specs.WellFormed.{WellFormed}
-use Rattle.syslog_reading.proofs.Laws.{one_meaning, same_parts}
+use Rattle.syslog_reading.proofs.Laws.{one_meaning}
 use Rattle.syslog_reading.proofs.Valid.{well_formed_valid}
 use Rattle.archive_text.specs.Entries.{Entry}
-use Rattle.archive_counts.specs.Words.{ArePeriods, AreSpaced, AreWordsOf, HasText, HasWords, IsFree, IsPeriodWord, IsWordOf}
-use Rattle.archive_counts.specs.Words.{WordsText, period_len, spaced}
+use Rattle.archive_counts.specs.Words.{AreSpaced, AreWordsOf, HasText, HasWords, IsFree, IsPeriodWord, IsWordOf}
+use Rattle.archive_counts.specs.Words.{WordsText, spaced}
 use Rattle.archive_counts.specs.declared.key.CountKey.{CountKey}
 use Rattle.archive_counts.specs.declared.key.CountKey.TheVariants as key
 
@@ -153,13 +150,13 @@ severity_test severity.Debug = refl
 digit : (n : ℕ) → IsFree (48 + n % 10)
 digit n = omega arith
 
-padded_free : (w n : ℕ) → AllByRecursion IsFree (padded w n)
+pub padded_free : (w n : ℕ) → AllByRecursion IsFree (padded w n)
 padded_free zero n = tt
 padded_free (suc w) n =
     AllByRecursion-append IsFree (padded w (n / 10)) ((48 + n % 10) ∷ []) (padded_free w (n / 10)) (digit n, tt)
 
 -- one more number, behind a mark
-number : (s : List ℕ) (x w n : ℕ) → IsFree x → AllByRecursion IsFree s → AllByRecursion IsFree (s ++ x ∷ padded w n)
+pub number : (s : List ℕ) (x w n : ℕ) → IsFree x → AllByRecursion IsFree s → AllByRecursion IsFree (s ++ x ∷ padded w n)
 number s x w n e h = AllByRecursion-append IsFree s (x ∷ padded w n) h (e, padded_free w n)
 
 civil_free : (c : Civil) → AllByRecursion IsFree (civil_text c)
@@ -189,7 +186,7 @@ period_free n (Some i) w (time, (c, exists, names, form), is) =
     subst (AllByRecursion IsFree) (sym is)
     (taken_free n time (subst (AllByRecursion IsFree) (sym form) (civil_free c)))
 
-field_free : (n : ℕ) (f : Option (List ℕ)) → IfSome f (IsWord n) → AllByRecursion IsFree (word_form f)
+pub field_free : (n : ℕ) (f : Option (List ℕ)) → IfSome f (IsWord n) → AllByRecursion IsFree (word_form f)
 field_free n None h = (omega arith, tt)
 field_free n (Some w) h = AllByRecursion-weaker IsPrintable IsFree (λ x p. omega (arith, p.0)) w h.printable
 
@@ -291,37 +288,3 @@ words_step keys i d r old out mid new within (text, words, e) (space, space_is, 
 pub words_all : (keys : List CountKey) (i : ℕ) (r : Parts ℤ) (old out : List ℕ) → length keys ≤ i
     → Adds (WordsText (take i keys) r) old out → Adds (WordsText keys r) old out
 words_all keys i r old out all h = subst (λ (l : List CountKey). Adds (WordsText l r) old out) (take_all i keys all) h
-
--- ---- what a view shows
-
-pub shown_time : (b : List ℕ) (s : ViewParts) (r : Parts ℤ) → IsViewOf b s → WellFormed r b → s.instant ≡ r.time
-shown_time b s r (p, text, range, distinct, shown) (q, also, range', distinct', means) =
-    let same = same_parts p q b text also in
-    shown.instant ∙ same.header.time ∙ sym means.time
-
--- ---- the words that are periods
-
-pub period_word : (k : CountKey) (r : Parts ℤ) (i : Option ℤ) (w : List ℕ) → r.time ≡ i → 0 < period_len k
-    → IsPeriodWord (period_len k) i w → IsWordOf k r w
-period_word key.Host r i w is some h = absurd (omega (arith, some))
-period_word key.App r i w is some h = absurd (omega (arith, some))
-period_word key.Proc r i w is some h = absurd (omega (arith, some))
-period_word key.Msgid r i w is some h = absurd (omega (arith, some))
-period_word key.Facility r i w is some h = absurd (omega (arith, some))
-period_word key.Severity r i w is some h = absurd (omega (arith, some))
-period_word key.Day r i w is some h = subst (λ (t : Option ℤ). IsPeriodWord 10 t w) (sym is) h
-period_word key.Hour r i w is some h = subst (λ (t : Option ℤ). IsPeriodWord 13 t w) (sym is) h
-period_word key.Minute r i w is some h = subst (λ (t : Option ℤ). IsPeriodWord 16 t w) (sym is) h
-
-pub period_step : (keys : List CountKey) (i : ℕ) (d : CountKey) (r : Parts ℤ) (time : Option ℤ) (len : ℕ)
-    (old out mid new : List ℕ) → i < length keys → r.time ≡ time → ArePeriods keys → len ≡ period_len (get_or keys i d)
-    → Adds (WordsText (take i keys) r) old out → Adds (Only (32 ∷ [])) out mid → Adds (IsPeriodWord len time) mid new
-    → Adds (WordsText (take (i + 1) keys) r) old new
-period_step keys i d r time len old out mid new within is all size words space (word, one, g) =
-    let k : CountKey = get_or keys i d in
-    words_step keys i d r old out mid new within words space (
-      word,
-      period_word k r time word is (All-get_or (λ (x : CountKey). 0 < period_len x) keys i d within all)
-          (subst (λ (n : ℕ). IsPeriodWord n time word) size one),
-      g,
-    )

@@ -1,6 +1,6 @@
 -- The words of a record under the keys that it is counted by.
 use Rattle.std.specs.Prelude.{◌≡◌, ℕ, ℤ, ◌<◌, ◌/◌, ◌%◌, List, [], ◌∷◌, Option, None, Some, codes, length, take}
-use Rattle.std.specs.List.{All, AllByRecursion, flat_map}
+use Rattle.std.specs.List.{AllByRecursion, flat_map}
 use Rattle.syslog_value.specs.Facilities.{facility_code, facility_name}
 use Rattle.syslog_value.specs.Parts.{Parts}
 use Rattle.syslog_value.specs.Severities.{severity_code, severity_name}
@@ -9,6 +9,7 @@ use Rattle.syslog_value.specs.declared.severity.Severity.{Severity}
 use Rattle.syslog_fields.specs.Canonical.{TimeForm, word_form}
 use Rattle.archive_text.specs.Entries.{Entry}
 use Rattle.archive_sets.specs.Fields.{IsOfRecord}
+use Rattle.archive_counts.specs.declared.header.HeaderWords.{HeaderWords}
 use Rattle.archive_counts.specs.declared.key.CountKey.{CountKey}
 use Rattle.archive_counts.specs.declared.key.CountKey.TheVariants.{Host, App, Proc, Msgid, Facility as by_Facility}
 use Rattle.archive_counts.specs.declared.key.CountKey.TheVariants.{Severity as by_Severity, Day, Hour, Minute}
@@ -37,21 +38,12 @@ IsWordOf Day r word = IsPeriodWord 10 r.time word
 IsWordOf Hour r word = IsPeriodWord 13 r.time word
 IsWordOf Minute r word = IsPeriodWord 16 r.time word
 
--- how many octets of a canonical timestamp are the word; none of them where the word is another
-abbrev pub period_len : CountKey → ℕ
-period_len Host = 0
-period_len App = 0
-period_len Proc = 0
-period_len Msgid = 0
-period_len by_Facility = 0
-period_len by_Severity = 0
-period_len Day = 10
-period_len Hour = 13
-period_len Minute = 16
-
--- the words are periods, which the instant of a record tells alone
-abbrev pub ArePeriods : List CountKey → Type 0
-ArePeriods keys = All (λ key. 0 < period_len key) keys
+-- the words of the header of a record, as they stand there
+pub record AreHeaderWords (r : Parts ℤ) (words : HeaderWords) : Type 0 where
+  pub hostname : words.hostname.now ≡ word_form r.hostname
+  pub app_name : words.app_name.now ≡ word_form r.app_name
+  pub proc_id : words.proc_id.now ≡ word_form r.proc_id
+  pub msg_id : words.msg_id.now ≡ word_form r.msg_id
 
 -- one for each key, in their order
 abbrev pub AreWordsOf : List CountKey → Parts ℤ → List (List ℕ) → Type 0

@@ -7,6 +7,7 @@
 mod bars;
 mod count;
 mod counting;
+mod header;
 mod json_lines;
 mod key;
 mod laws;

@@ -7,9 +7,9 @@ use Rattle.archive_text.specs.Entries.{Entry, Has}
 use Rattle.archive_sets.specs.Selections.{IsSelection}
 use Rattle.archive_sets.proofs.SelectionLaws.{one_selection}
 use Rattle.archive_digest.specs.Digests.{Part, IsDivided, IsPartOf, entries_of}
-use Rattle.archive_digest.specs.Periods.{IsIn}
-use Rattle.archive_digest.specs.declared.period.Period.{Period}
-use Rattle.archive_digest.proofs.Names.{one_name}
+use Rattle.archive_text.specs.Periods.{IsIn}
+use Rattle.archive_text.specs.declared.period.Period.{Period}
+use Rattle.archive_text.proofs.Names.{one_name}
 use Rattle.archive_digest.proofs.Parts.{part}
 
 -- lists that begin with entries begin alike

@@ -19,7 +19,7 @@ use Rattle.archive_digest.specs.Digests.{digest_text, line_of, lines_of}
 use Rattle.archive_digest.specs.Putting.{ending}
 use Rattle.archive_digest.specs.Sums.{IsTallyOf}
 use Rattle.archive_digest.specs.declared.digesting.Digesting.{Digesting}
-use Rattle.archive_digest.specs.declared.period.Period.{Period}
+use Rattle.archive_text.specs.declared.period.Period.{Period}
 use Rattle.archive_digest.proofs.Lines.{short_digest}
 use Rattle.archive_digest.proofs.Steps.{digest_so_far, divided_so_far, empty_so_far, parts_of, short_read}
 

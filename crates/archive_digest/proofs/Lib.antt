@@ -1,5 +1,3 @@
-pub mod Civils
-pub mod Names
 pub mod Sums
 pub mod Parts
 pub mod Lines

@@ -15,10 +15,10 @@ use Rattle.archive_text.specs.Text.{text_of}
 use Rattle.archive_text.proofs.Texts.{text_length}
 use Rattle.archive_sets.proofs.Selecting.{no_more_than_octets}
 use Rattle.archive_digest.specs.Digests.{Part, IsDivided, IsPartOf, before_last, digest_text, entries_of, line_of, lines_of}
-use Rattle.archive_digest.specs.Periods.{IsPeriodOf, name_length}
+use Rattle.archive_text.specs.Periods.{IsPeriodOf, name_length}
 use Rattle.archive_digest.specs.Sums.{IsSumOf}
-use Rattle.archive_digest.specs.declared.period.Period.{Period}
-use Rattle.archive_digest.specs.declared.period.Period.TheVariants.{Month, Day, Hour}
+use Rattle.archive_text.specs.declared.period.Period.{Period}
+use Rattle.archive_text.specs.declared.period.Period.TheVariants.{Month, Day, Hour}
 use Rattle.archive_digest.specs.declared.sum.Sum.{Sum}
 
 -- one part more

@@ -11,9 +11,9 @@ use Rattle.archive_sets.specs.Selections.{IsSelection}
 use Rattle.archive_sets.proofs.Selecting.{selection_nil, selection_passes, selection_takes}
 use Rattle.archive_digest.specs.Digesting.{EndsIn}
 use Rattle.archive_digest.specs.Digests.{Part, IsPartOf, entries_of}
-use Rattle.archive_digest.specs.Periods.{IsIn}
-use Rattle.archive_digest.specs.declared.period.Period.{Period}
-use Rattle.archive_digest.proofs.Names.{between, one_name}
+use Rattle.archive_text.specs.Periods.{IsIn}
+use Rattle.archive_text.specs.declared.period.Period.{Period}
+use Rattle.archive_text.proofs.Names.{between, one_name}
 
 abbrev pub part : List ℕ → List Entry → Part
 part name es = record { name = name; entries = es }

@@ -17,11 +17,11 @@ use Rattle.archive_sets.specs.declared.fault.SelectFault.{SelectFault}
 use Rattle.archive_sets.specs.declared.fault.SelectFault.TheVariants.{Archive, Read, Endless, Write, Memory}
 use Rattle.archive_digest.specs.Digesting.{EndsIn, Halted, IsFresh, IsSoFar, KeepsOutput, Looking, Running, UnderWay}
 use Rattle.archive_digest.specs.Digests.{Part, IsDivided, before_last, digest_text, entries_of, line_of, lines_of}
-use Rattle.archive_digest.specs.Periods.{IsIn}
+use Rattle.archive_text.specs.Periods.{IsIn}
 use Rattle.archive_digest.specs.Putting.{ending}
 use Rattle.archive_digest.specs.Sums.{IsSumOf, IsTallyOf}
 use Rattle.archive_digest.specs.declared.digesting.Digesting.{Digesting}
-use Rattle.archive_digest.specs.declared.period.Period.{Period}
+use Rattle.archive_text.specs.declared.period.Period.{Period}
 use Rattle.archive_digest.specs.declared.sum.Sum.{Sum}
 use Rattle.archive_digest.specs.declared.tally.Tally.{Tally}
 use Rattle.archive_digest.proofs.Lines.{before_last_more, lines_more, short_before}

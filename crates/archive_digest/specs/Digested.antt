@@ -8,7 +8,7 @@ use Rattle.archive_sets.specs.Selected.{IsReadAt}
 use Rattle.archive_sets.specs.declared.fault.SelectFault.{SelectFault}
 use Rattle.archive_sets.specs.declared.fault.SelectFault.TheVariants.{Write, Memory}
 use Rattle.archive_digest.specs.Digests.{Part, IsDivided, before_last, digest_text, lines_of}
-use Rattle.archive_digest.specs.declared.period.Period.{Period}
+use Rattle.archive_text.specs.declared.period.Period.{Period}
 
 -- an archive was read to its end, and its digest was written, of so many entries
 pub record Digested (period : Period) (d e : InputState) (taken_old taken_new : Option (List ℕ)) (n : ℕ)

@@ -11,7 +11,7 @@ use Rattle.archive_digest.specs.Digested.{Digested, IsToBeWritten, Stopped}
 use Rattle.archive_digest.specs.Digests.{Part, IsDivided, before_last, lines_of}
 use Rattle.archive_digest.specs.Sums.{IsTallyOf}
 use Rattle.archive_digest.specs.declared.digesting.Digesting.{Digesting}
-use Rattle.archive_digest.specs.declared.period.Period.{Period}
+use Rattle.archive_text.specs.declared.period.Period.{Period}
 
 -- nothing was read, counted or held back
 pub record IsFresh (s : Digesting) : Type 0 where

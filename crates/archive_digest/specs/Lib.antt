@@ -1,4 +1,3 @@
-pub mod Periods
 pub mod Digests
 pub mod Digested
 pub mod Sums

@@ -5,8 +5,8 @@ ghost use Rattle.archive_sets.specs.Failures.{ReadFailures, WriteFailures};
 ghost use Rattle.archive_digest.specs.Digesting.{Halted, IsFresh, ReadWhole};
 
 use crate::digesting::Digesting;
-use crate::period::Period;
 use archive_sets::SelectFault;
+use archive_text::Period;
 use octet_devices::{Input, Output};
 
 impl Digesting {

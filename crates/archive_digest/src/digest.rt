@@ -11,8 +11,8 @@ ghost use Rattle.archive_digest.specs.Sums.{IsTallyOf};
 
 use crate::digesting::Digesting;
 use crate::line::put_line;
-use crate::period::Period;
 use archive_sets::SelectFault;
+use archive_text::Period;
 use octet_devices::{Input, Output, WriteFault};
 use std::alloc::Global;
 

@@ -10,10 +10,10 @@ ghost use Rattle.archive_digest.specs.Sums.{IsTallyOf};
 
 use crate::line::put_line;
 use crate::name::PeriodName;
-use crate::period::Period;
 use crate::tally::Tally;
 use archive_sets::SelectFault;
 use archive_streams::{ArchiveEntries, EntriesFault, InputFault};
+use archive_text::Period;
 use octet_devices::{BufferedOutput, Input, Output, WriteFault};
 use std::alloc::{AllocError, Global};
 

@@ -4,7 +4,7 @@ ghost use Rattle.std.specs.Prelude.{◌≡◌, List};
 ghost use Rattle.archive_text.specs.Entries.{Entry};
 ghost use Rattle.archive_digest.specs.Digests.{IsDivided, Part};
 
-use crate::period::Period;
+use archive_text::Period;
 
 /// Entries are divided into periods in one way, so an archive has one digest.
 pub fn digests_are_one(period: Period)

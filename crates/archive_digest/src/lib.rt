@@ -11,11 +11,10 @@ mod digesting;
 mod laws;
 mod line;
 mod name;
-mod period;
 mod sum;
 mod tally;
 
 pub use archive_sets::SelectFault as DigestFault;
+pub use archive_text::Period;
 pub use digest::digest_stream;
 pub use laws::digests_are_one;
-pub use period::Period;

@@ -1,9 +1,9 @@
 //! What periods are called.
 
 ghost use Rattle.std.specs.Prelude.{◌≡◌, ◌≤◌, ◌↔◌, [], IsTrue};
-ghost use Rattle.archive_digest.specs.Periods.{IsPeriodOf, name_length};
+ghost use Rattle.archive_text.specs.Periods.{IsPeriodOf, name_length};
 
-use crate::period::Period;
+use archive_text::Period;
 use std::marker::Model;
 use syslog_grammar::canonical_timestamp;
 use syslog_value::Instant;

@@ -9,3 +9,5 @@ pub mod Places
 pub mod Sets
 pub mod Shown
 pub mod Puts
+pub mod Civils
+pub mod Names

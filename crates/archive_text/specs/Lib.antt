@@ -4,4 +4,5 @@ pub mod Text
 pub mod Faults
 pub mod Stores
 pub mod Sets
+pub mod Periods
 pub mod Positions

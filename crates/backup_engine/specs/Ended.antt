@@ -5,7 +5,7 @@ use Rattle.disk.specs.States.{Files, State}
 use Rattle.octet_devices.specs.Device.{OutputState}
 use Rattle.driver.specs.declared.status.TheConstants.{DONE, FAULT, REFUSED}
 use Rattle.journal.specs.Journals.{IsSound}
-use Rattle.set_engine.specs.Ended.{Telling, Tells, TellsLine}
+use Rattle.driver.specs.Ended.{Telling, Tells, TellsLine}
 use Rattle.store_engine.specs.Reading.{disk_line, disk_status, is_of_file, read_line, read_status}
 use Rattle.store_upkeep.specs.declared.damage.DamagedFile.{DamagedFile}
 use Rattle.store_backup.specs.Backups.{HoldsAll, HoldsNoOther, IsBackup, IsEmptyFolder, ShowsSome}

@@ -1,6 +1,6 @@
 //! `backup`: a store is copied.
 ghost use Rattle.std.specs.Prelude.{◌≡◌, ◌++◌, IfOk, codes};
-ghost use Rattle.set_engine.specs.Ended.{Tells, TellsLine};
+ghost use Rattle.driver.specs.Ended.{Tells, TellsLine};
 ghost use Rattle.backup_engine.specs.Ended.{RanBackup, backup_telling, copy_telling, status_of};
 ghost use Rattle.backup_engine.specs.Lines.{backup_lines};
 

@@ -2,8 +2,8 @@
 use Rattle.std.specs.Prelude.{◌≡◌, ◌⊎◌, ℕ, ℤ, pos, List}
 use Rattle.archive_text.specs.Entries.{Entry}
 use Rattle.archive_digest.specs.Digests.{IsDivided, Part, digest_text}
-use Rattle.archive_digest.specs.declared.period.Period.{Period}
-use Rattle.archive_digest.specs.declared.period.Period.TheVariants.{Month, Day, Hour}
+use Rattle.archive_text.specs.declared.period.Period.{Period}
+use Rattle.archive_text.specs.declared.period.Period.TheVariants.{Month, Day, Hour}
 use Rattle.c_library.specs.Faults.{period_fault}
 use Rattle.c_library.specs.Unions.{IsArchiveOf, IsNoArchive}
 use Rattle.c_library.specs.declared.fault.SyslogboxFault.{SyslogboxFault}

@@ -1,7 +1,7 @@
 //! The digest of an archive.
 
 ghost use Rattle.std.specs.Prelude.{◌≡◌, MatchOption, MatchResult, ℤ};
-ghost use Rattle.archive_digest.specs.declared.period.Period.{Period};
+ghost use Rattle.archive_text.specs.declared.period.Period.{Period};
 ghost use Rattle.c_library.specs.Answers.{Answers};
 ghost use Rattle.c_library.specs.Digests.{DigestOf, IsNoDigest, period_number};
 ghost use Rattle.c_library.specs.Unions.{IsNoArchive};

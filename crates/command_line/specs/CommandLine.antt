@@ -191,6 +191,12 @@ read_app =
     with_color_rule (with_rule (with_rule (with_condition_rules (folder_app (codes "read"))) (option_rule (codes "last")))
     (default_rule (codes "as") (codes "archive")))
 
+-- the command that writes the records of a store as they come
+abbrev pub follow_app : App
+follow_app =
+    with_rule (with_rule (with_condition_rules (folder_app (codes "follow"))) (flag_rule (codes "from-start")))
+    (flag_rule (codes "until-eof"))
+
 -- the command that receives records from sockets
 abbrev pub collect_app : App
 collect_app =
@@ -309,10 +315,14 @@ abbrev pub with_site_commands : App → App
 with_site_commands a =
     with_subcommand (with_subcommand (with_subcommand a reconcile_app.top) answer_app.top) backup_app.top
 
+-- the commands that write the records of a store
+abbrev pub with_readers : App → App
+with_readers a = with_subcommand (with_subcommand a read_app.top) follow_app.top
+
 -- the commands on stores
 abbrev pub with_store_commands : App → App
 with_store_commands a =
-    with_site_commands (with_changers (with_subcommand (with_subcommand (with_subcommand a read_app.top)
+    with_site_commands (with_changers (with_subcommand (with_subcommand (with_readers a)
     (long_app (codes "verify")).top) (folder_app (codes "stat")).top))
 
 -- the commands that receive records from sockets

@@ -2,8 +2,8 @@
 use Rattle.std.specs.Prelude.{Option, Some, None, codes, if◌then◌else◌}
 use Rattle.std.specs.Str.{bytes_eq}
 use Rattle.clap.specs.Walk.{Text}
-use Rattle.archive_digest.specs.declared.period.Period.{Period}
-use Rattle.archive_digest.specs.declared.period.Period.TheVariants.{Month, Day, Hour}
+use Rattle.archive_text.specs.declared.period.Period.{Period}
+use Rattle.archive_text.specs.declared.period.Period.TheVariants.{Month, Day, Hour}
 
 -- the period with this name
 abbrev pub period_of : Text → Option Period

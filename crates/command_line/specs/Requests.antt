@@ -27,7 +27,7 @@ use Rattle.condition_words.specs.Conditions.{ConditionsAsked, conditions_asked, 
 use Rattle.option_values.specs.Numbers.{number_in, size_in}
 use Rattle.option_values.specs.Readings.{reading_in}
 use Rattle.option_values.specs.Values.{is_given_in, optional}
-use Rattle.archive_digest.specs.declared.period.Period.{Period}
+use Rattle.archive_text.specs.declared.period.Period.{Period}
 use Rattle.server_words.specs.Serves.{ServeAsked, serve_asked, serve_in}
 use Rattle.send_engine.specs.Options.{OptionTexts, texts_of}
 use Rattle.driver.specs.declared.limits.ReadLimit.{ReadLimit}
@@ -39,6 +39,7 @@ use Rattle.command_line.specs.declared.request.ColorWhen.{ColorWhen}
 use Rattle.command_line.specs.declared.request.ExpireWords.{ExpireWords}
 use Rattle.command_line.specs.declared.request.FileRequest.{FileRequest}
 use Rattle.command_line.specs.declared.request.FileRequest.TheVariants as files
+use Rattle.command_line.specs.declared.request.FollowWords.{FollowWords}
 use Rattle.command_line.specs.declared.request.FrameCommand.{FrameCommand}
 use Rattle.command_line.specs.declared.request.FrameCommand.TheVariants as frames
 use Rattle.command_line.specs.declared.request.FrameRequest.{FrameRequest}
@@ -79,6 +80,7 @@ pub data Asked : Type 0 where
   Collect : CollectWords → Asked
   -- folders
   Read : Text → ConditionsAsked → ReadWords → Asked
+  Follow : Text → ConditionsAsked → FollowWords → Asked
   Verify : Text → Asked
   Stat : Text → Asked
   Compact : Text → Asked
@@ -124,6 +126,7 @@ asked_by (request.Confirm head records) = Confirm head records.now
 asked_by (request.Send options) = Send (texts_of options)
 asked_by (request.Collect words) = Collect words
 asked_by (request.Read dir conditions words) = Read dir.now (conditions_asked conditions) words
+asked_by (request.Follow dir conditions words) = Follow dir.now (conditions_asked conditions) words
 asked_by (request.Verify dir) = Verify dir.now
 asked_by (request.Stat dir) = Stat dir.now
 asked_by (request.Compact dir) = Compact dir.now
@@ -316,6 +319,19 @@ read_read rows =
     option_and_then (λ dir. option_and_then (λ conditions. option_map (λ words. Read dir conditions words)
     (read_words_in rows)) (conditions_in rows)) (first_of (codes "DIR") rows)
 
+-- all values of `follow` but those of conditions
+abbrev pub follow_words_in : List Row → FollowWords
+follow_words_in rows = record {
+  from_start = is_given_in (codes "from-start") rows;
+  until_eof = is_given_in (codes "until-eof") rows;
+}
+
+-- `follow` with the values of its options
+abbrev pub read_follow : List Row → Option Asked
+read_follow rows =
+    option_and_then (λ dir. option_map (λ conditions. Follow dir conditions (follow_words_in rows)) (conditions_in rows))
+    (first_of (codes "DIR") rows)
+
 -- `verify` with its folder
 abbrev pub read_verify : List Row → Option Asked
 read_verify rows = option_map (λ dir. Verify dir) (first_of (codes "DIR") rows)
@@ -408,7 +424,8 @@ read_of (name, rows) =
     else (if bytes_eq name (codes "select") then read_select rows
     else (if bytes_eq name (codes "count") then read_count rows
     else (if bytes_eq name (codes "read") then read_read rows
-    else (if bytes_eq name (codes "serve") then read_serve rows else read_other name rows)))))
+    else (if bytes_eq name (codes "follow") then read_follow rows
+    else (if bytes_eq name (codes "serve") then read_serve rows else read_other name rows))))))
 
 -- the subcommand with the values of its options, where the parse has no fault
 abbrev pub rows_where : Kinds → Option (Text × List Row) → Option (Text × List Row)

@@ -22,7 +22,7 @@ mod words;
 
 pub use collecting::collect_words;
 pub use request::{
-    AnswerWords, ColorWhen, ExpireBound, ExpireWords, FileRequest, FrameCommand, FrameRequest,
-    Invocation, ReadForm, ReadWords, ReconcileWay, ReconcileWords, Request,
+    AnswerWords, ColorWhen, ExpireBound, ExpireWords, FileRequest, FollowWords, FrameCommand,
+    FrameRequest, Invocation, ReadForm, ReadWords, ReconcileWay, ReconcileWords, Request,
 };
 pub use words::{WordsFault, read_words};

@@ -13,7 +13,7 @@ use option_values::{CommandRow, FILES_MAX, Form, OptionRow};
 use std::alloc::{AllocError, Global};
 
 // What `--version` tells beside the program's name.
-const VERSION: &str = "0.11.0";
+const VERSION: &str = "0.12.0";
 
 // An option that takes a value.
 fn single<'a>(alloc: Global, name: &'a str) -> Arg<'a>

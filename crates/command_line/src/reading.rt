@@ -1,16 +1,16 @@
-//! The words of `read`, and those that say when records are colored.
+//! The words of `read` and of `follow`, and those that say when records are colored.
 
 ghost use Rattle.std.specs.Prelude.{◌≡◌, option_map, IfOk};
 ghost use Rattle.std.specs.Result.{result_ok};
 ghost use Rattle.clap.specs.Words.{found_of, rows_of};
 ghost use Rattle.command_line.specs.Reads.{color_in, color_of, form_in, form_of, read_words_in};
-ghost use Rattle.command_line.specs.Requests.{asked_by, read_read};
+ghost use Rattle.command_line.specs.Requests.{asked_by, follow_words_in, read_follow, read_read};
 
-use crate::request::{ColorWhen, ReadForm, ReadWords, Request};
+use crate::request::{ColorWhen, FollowWords, ReadForm, ReadWords, Request};
 use clap::ArgMatches;
 use condition_words::read_conditions;
-use option_values::options::{COLOR, DIR, LAST, READ_FORM};
-use option_values::{Refusal, needed, optional_number};
+use option_values::options::{COLOR, DIR, FROM_START, LAST, READ_FORM, UNTIL_EOF};
+use option_values::{Refusal, is_given, needed, optional_number};
 use std::alloc::{AllocError, Global};
 
 // When records are colored, by this name; None for any other text.
@@ -99,6 +99,38 @@ pub(crate) fn read_read_words<'a>(
             dir,
             conditions,
             words,
+        })),
+        Err(refusal) => Ok(Err(refusal)),
+    }
+}
+
+// Which records `follow` begins with, and what ends it.
+fn follow_words(matches: &ArgMatches<'_>) -> FollowWords
+    ensures { result ≡ follow_words_in (rows_of (found_of matches.now)) }
+{
+    FollowWords {
+        from_start: is_given(matches, FROM_START.name),
+        until_eof: is_given(matches, UNTIL_EOF.name),
+    }
+}
+
+/// The request of `follow`. It fails only when out of memory.
+pub(crate) fn read_follow_words<'a>(
+    alloc: Global,
+    matches: &ArgMatches<'a>,
+) -> Result<Result<Request<'a>, Refusal<'a>>, AllocError>
+    ensures { IfOk result (λ r.
+        option_map asked_by (result_ok r) ≡ read_follow (rows_of (found_of matches.now))) }
+{
+    let dir = match needed(matches, &DIR) {
+        Ok(dir) => dir,
+        Err(refusal) => return Ok(Err(refusal)),
+    };
+    match read_conditions(alloc, matches)? {
+        Ok(conditions) => Ok(Ok(Request::Follow {
+            dir,
+            conditions,
+            words: follow_words(matches),
         })),
         Err(refusal) => Ok(Err(refusal)),
     }

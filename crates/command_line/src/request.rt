@@ -174,6 +174,15 @@ pub struct ReadWords {
     pub color: ColorWhen,
 }
 
+/// Which of the records that a server commits `follow` writes, and for how long.
+#[derive(Clone, Copy, Debug, PartialEq, Eq)]
+pub struct FollowWords {
+    /// Whether those come first that the journals hold when it begins.
+    pub from_start: bool,
+    /// Whether it ends when standard input ends.
+    pub until_eof: bool,
+}
+
 /// What the words of a command line ask for. Names of files and folders are lent by the words.
 #[derive(Debug, Drop)]
 pub enum Request<'a> {
@@ -226,6 +235,12 @@ pub enum Request<'a> {
         dir: &'a str,
         conditions: Conditions<'a>,
         words: ReadWords,
+    },
+    /// `follow`: the records that are committed to the store in a folder and that meet these conditions, as they come.
+    Follow {
+        dir: &'a str,
+        conditions: Conditions<'a>,
+        words: FollowWords,
     },
     /// `verify`: what is damaged in a store, one line each.
     Verify {

@@ -3,7 +3,7 @@
 use std::alloc::{AllocError, Global};
 
 // How the tip begins that takes an option which a command does not have for a value.
-const TIP: &str = "\n  tip: to pass '--";
+const TIP: &str = "\n  tip: to pass '-";
 
 /// A text without the tip to pass an unknown option as a value.
 pub(crate) fn untipped(alloc: Global, text: String) -> Result<String, AllocError> {

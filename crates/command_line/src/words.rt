@@ -21,7 +21,7 @@ use crate::frame_words::{
 };
 use crate::line::whole_line;
 use crate::proof_words::{read_confirm_words, read_prove_words};
-use crate::reading::read_read_words;
+use crate::reading::{read_follow_words, read_read_words};
 use crate::request::{Invocation, Request};
 use crate::select_words::read_select_words;
 use crate::send_words::read_send_words;
@@ -131,6 +131,7 @@ fn asked_for<'a>(
         "select" => read_select_words(alloc, inner),
         "count" => read_count_words(alloc, inner),
         "read" => read_read_words(alloc, inner),
+        "follow" => read_follow_words(alloc, inner),
         "serve" => read_serve_request(alloc, inner),
         _ => Ok(read_other_words(name, inner)),
     }

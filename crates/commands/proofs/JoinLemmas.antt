@@ -7,7 +7,7 @@ use Rattle.std.proofs.lemmas.List.{drop_more, length-map, length-take, map-appen
 use Rattle.octet_devices.specs.Device.{InputState, OutputState}
 use Rattle.driver.specs.declared.status.TheConstants.{FAULT}
 use Rattle.set_engine.specs.Combining.{input_words}
-use Rattle.set_engine.specs.Ended.{TellsLine}
+use Rattle.driver.specs.Ended.{TellsLine}
 use Rattle.set_engine.specs.declared.combination.Combination.{Combination}
 use Rattle.commands.specs.JoinedFiles.{AreOpened, HaveFiles, LacksOne}
 use Rattle.commands.specs.Stored.{Opens, Stored}

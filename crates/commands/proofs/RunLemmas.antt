@@ -28,7 +28,7 @@ use Rattle.archive_engine.specs.Archived.{archive_handling, archive_meaning}
 use Rattle.archive_engine.proofs.ArchiveLemmas.{archive_laws}
 use Rattle.archive_sets.specs.declared.fault.SelectFault.TheVariants.{Memory as select_Memory}
 use Rattle.command_line.specs.Requests.{Add, Answer, Archive, Asked, Backup, Check, Collect, Common, Compact}
-use Rattle.command_line.specs.Requests.{Confirm, Convert, Count, Diff, Digest, Expire, Merge, Migrate, Minus, Prove}
+use Rattle.command_line.specs.Requests.{Confirm, Convert, Count, Diff, Digest, Expire, Follow, Merge, Migrate, Minus, Prove}
 use Rattle.command_line.specs.Requests.{Read, Reconcile, Root, Select, Send, Serve, Show, SpillArchive, Stat, Union}
 use Rattle.command_line.specs.Requests.{Verify}
 use Rattle.command_line.specs.Requests.{AnswersWords, IsHelp, asks_help, frames_asked, frames_by, may_ask_help, parsed}
@@ -162,6 +162,7 @@ unstarted_as (Send texts) stored old d status t = record {
 }
 unstarted_as (SpillArchive way framing dir memory) stored old d status t = inl (refl, t)
 unstarted_as (Read dir conditions words) stored old d status t = inl (refl, t)
+unstarted_as (Follow dir conditions words) stored old d status t = inl (refl, t)
 unstarted_as (Verify dir) stored old d status t = inl (refl, t)
 unstarted_as (Stat dir) stored old d status t = inl (refl, t)
 unstarted_as (Compact dir) stored old d status t = inl (refl, t)

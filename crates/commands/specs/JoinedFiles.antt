@@ -5,7 +5,7 @@ use Rattle.octet_devices.specs.Device.{InputState, OutputState}
 use Rattle.driver.specs.Devices.{Reports}
 use Rattle.driver.specs.declared.status.TheConstants.{FAULT, NO_MEMORY}
 use Rattle.set_engine.specs.Combining.{RanJoin, input_words}
-use Rattle.set_engine.specs.Ended.{TellsLine}
+use Rattle.driver.specs.Ended.{TellsLine}
 use Rattle.set_engine.specs.declared.combination.Combination.{Combination}
 use Rattle.commands.specs.Stored.{Opens, RanOut, Stored}
 

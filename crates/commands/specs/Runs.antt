@@ -24,7 +24,7 @@ use Rattle.archive_sets.specs.Together.{MeetsAll}
 use Rattle.archive_sets.specs.declared.conditions.Conditions.{Conditions}
 use Rattle.condition_words.specs.Conditions.{ConditionsAsked, conditions_asked}
 use Rattle.command_line.specs.Requests.{Add, Answer, Archive, Asked, Backup, Check, Collect, Common, Compact}
-use Rattle.command_line.specs.Requests.{Confirm, Convert, Count, Diff, Digest, Expire, Merge, Migrate, Minus, Prove}
+use Rattle.command_line.specs.Requests.{Confirm, Convert, Count, Diff, Digest, Expire, Follow, Merge, Migrate, Minus, Prove}
 use Rattle.command_line.specs.Requests.{Read, Reconcile, Root, Select, Send, Serve, Show, SpillArchive, Stat, Union}
 use Rattle.command_line.specs.Requests.{Verify}
 use Rattle.command_line.specs.declared.request.ColorWhen.{ColorWhen}
@@ -137,6 +137,8 @@ RanAs (SpillArchive way framing dir memory) stored old new status =
     RanWithout (codes "spill fault\n") old.output new.output old.diagnostics new.diagnostics status
 RanAs (Read dir conditions words) stored old new status =
     RanWithout (codes "store fault\n") old.output new.output old.diagnostics new.diagnostics status
+RanAs (Follow dir conditions words) stored old new status =
+    RanWithout (codes "store fault\n") old.output new.output old.diagnostics new.diagnostics status
 RanAs (Verify dir) stored old new status =
     RanWithout (codes "store fault\n") old.output new.output old.diagnostics new.diagnostics status
 RanAs (Stat dir) stored old new status =
@@ -179,6 +181,7 @@ ReadsInput (Migrate file) = ⊥
 ReadsInput (Send texts) = ⊥
 ReadsInput (SpillArchive way framing dir memory) = ⊥
 ReadsInput (Read dir conditions words) = ⊥
+ReadsInput (Follow dir conditions words) = ⊥
 ReadsInput (Verify dir) = ⊥
 ReadsInput (Stat dir) = ⊥
 ReadsInput (Compact dir) = ⊥

@@ -302,6 +302,7 @@ pub fn run_request<R: Input, W: Output, N: Output, F: Files>(
         // only `main` has these
         Request::SpillArchive { .. } => report(diagnostics, b"spill fault\n", FAULT),
         Request::Read { .. } => report(diagnostics, b"store fault\n", FAULT),
+        Request::Follow { .. } => report(diagnostics, b"store fault\n", FAULT),
         Request::Verify { .. } => report(diagnostics, b"store fault\n", FAULT),
         Request::Stat { .. } => report(diagnostics, b"store fault\n", FAULT),
         Request::Compact { .. } => report(diagnostics, b"store fault\n", FAULT),

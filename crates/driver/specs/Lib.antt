@@ -3,3 +3,4 @@ pub mod Sessions
 pub mod Devices
 pub mod Run
 pub mod Holding
+pub mod Ended

@@ -9,8 +9,8 @@ use Rattle.disk.specs.Calls.{Removes}
 use Rattle.disk.specs.States.{Entry as DiskEntry, NameMayLeave, State, kept}
 use Rattle.disk.specs.declared.fault.DiskFault.{DiskFault}
 use Rattle.journal.specs.Journals.{IsOnDisk, IsSound, KeepsOthers}
-use Rattle.archive_digest.specs.Periods.{IsIn}
-use Rattle.archive_digest.specs.declared.period.Period.TheVariants.{Day}
+use Rattle.archive_text.specs.Periods.{IsIn}
+use Rattle.archive_text.specs.declared.period.Period.TheVariants.{Day}
 use Rattle.archive_text.specs.Entries.{Entry, Has}
 use Rattle.archive_text.specs.Text.{IsArchive, entry_text, text_of}
 use Rattle.archive_text.specs.declared.limits.TheConstants.{ENTRY_MAX}

@@ -10,8 +10,8 @@ use Rattle.disk.specs.declared.fault.DiskFault.{DiskFault}
 use Rattle.disk.specs.declared.fault.DiskFault.TheVariants.{Missing, Exists, Full, Failed, Memory}
 use Rattle.syslog_value.specs.declared.civil.Civil.{Civil}
 use Rattle.syslog_fields.specs.Canonical.{civil_text}
-use Rattle.archive_digest.specs.Periods.{IsPeriodOf}
-use Rattle.archive_digest.specs.declared.period.Period.TheVariants.{Day as day_Period}
+use Rattle.archive_text.specs.Periods.{IsPeriodOf}
+use Rattle.archive_text.specs.declared.period.Period.TheVariants.{Day as day_Period}
 use Rattle.record_store.specs.Causes.{IsDraftCause}
 use Rattle.record_store.specs.Keeping.{IsKeepCause}
 use Rattle.record_store.specs.Names.{IsDayName}

@@ -4,8 +4,8 @@ use Rattle.std.specs.Prelude.{ℤ, None, Option, Some, take}
 use Rattle.std.specs.List.{AllByRecursion}
 use Rattle.syslog_value.proofs.CivilTimes.{civil-injective}
 use Rattle.syslog_fields.specs.Canonical.{TimeForm, civil_text}
-use Rattle.archive_digest.specs.Periods.{IsIn, IsPeriodOf}
-use Rattle.archive_digest.specs.declared.period.Period.TheVariants.{Day}
+use Rattle.archive_text.specs.Periods.{IsIn, IsPeriodOf}
+use Rattle.archive_text.specs.declared.period.Period.TheVariants.{Day}
 use Rattle.archive_text.specs.Entries.{Entry}
 use Rattle.durable_store.specs.Shares.{AreDays, CountsDay, IsDay, Leaves}
 

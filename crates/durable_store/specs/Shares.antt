@@ -3,8 +3,8 @@ use Rattle.std.specs.Prelude.{◌≡◌, ℕ, ◌+◌, ◌*◌, ◌<◌, ◌≤�
 use Rattle.std.specs.List.{AllByRecursion}
 use Rattle.disk.specs.Calls.{AtMostSyncs}
 use Rattle.disk.specs.States.{State}
-use Rattle.archive_digest.specs.Periods.{IsIn}
-use Rattle.archive_digest.specs.declared.period.Period.TheVariants.{Day}
+use Rattle.archive_text.specs.Periods.{IsIn}
+use Rattle.archive_text.specs.declared.period.Period.TheVariants.{Day}
 use Rattle.archive_pages.specs.Paged.{at_most_all}
 use Rattle.archive_text.specs.Entries.{Entry}
 use Rattle.archive_text.specs.Text.{text_of}

@@ -3,8 +3,8 @@ ghost use Rattle.std.specs.Prelude.{◌≡◌, ◌⊎◌, ◌↔◌, ◌++◌, �
 ghost use Rattle.std.specs.Prelude.{ℕ, length, OnOk};
 ghost use Rattle.syslog_frame.specs.Frames.{framed};
 ghost use Rattle.syslog_frame.specs.declared.framing.Framing.TheVariants.{Counted};
-ghost use Rattle.archive_digest.specs.Periods.{IsIn};
-ghost use Rattle.archive_digest.specs.declared.period.Period.TheVariants.{Day as day_Period};
+ghost use Rattle.archive_text.specs.Periods.{IsIn};
+ghost use Rattle.archive_text.specs.declared.period.Period.TheVariants.{Day as day_Period};
 ghost use Rattle.archive_pages.specs.Paged.{entries_from, entries_in};
 ghost use Rattle.archive_text.specs.EntryViews.{entry_of};
 ghost use Rattle.archive_text.specs.Text.{text_of};

@@ -2,8 +2,8 @@
 ghost use Rattle.std.specs.Prelude.{◌≡◌, ◌↔◌, ◌∷◌, [], IfNone, IfOk, IfSome, IsTrue, length};
 ghost use Rattle.syslog_frame.specs.Frames.{framed};
 ghost use Rattle.syslog_frame.specs.declared.framing.Framing.TheVariants.{Counted};
-ghost use Rattle.archive_digest.specs.Periods.{IsIn, IsPeriodOf};
-ghost use Rattle.archive_digest.specs.declared.period.Period.TheVariants.{Day as day_Period};
+ghost use Rattle.archive_text.specs.Periods.{IsIn, IsPeriodOf};
+ghost use Rattle.archive_text.specs.declared.period.Period.TheVariants.{Day as day_Period};
 ghost use Rattle.archive_pages.specs.Paged.{at_most_all, entries_from, entries_in};
 ghost use Rattle.archive_text.specs.EntryViews.{entry_of};
 ghost use Rattle.archive_text.specs.Text.{text_of};

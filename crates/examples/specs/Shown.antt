@@ -12,7 +12,7 @@ use Rattle.archive_text.specs.declared.limits.TheConstants.{ENTRY_MAX}
 use Rattle.archive_streams.specs.Joining.{IsUnion}
 use Rattle.archive_sets.specs.Selections.{IsSelection}
 use Rattle.archive_digest.specs.Digests.{IsDivided, Part, digest_text}
-use Rattle.archive_digest.specs.declared.period.Period.{Period}
+use Rattle.archive_text.specs.declared.period.Period.{Period}
 
 -- the octets spell a record of which this is the application
 abbrev pub NamesApp : List ℕ → Option (List ℕ) → Type 0

@@ -2,7 +2,7 @@
 
 ghost use Rattle.std.specs.Prelude.{IfOk};
 ghost use Rattle.archive_sets.specs.Fields.{IsAsSevere, IsOfRecord};
-ghost use Rattle.archive_digest.specs.declared.period.Period.TheVariants.{Day};
+ghost use Rattle.archive_text.specs.declared.period.Period.TheVariants.{Day};
 ghost use Rattle.examples.specs.Shown.{IsDigestText, IsSelectedText, IsUnionText};
 
 use std::alloc::Global;

@@ -4,10 +4,10 @@ use crate::option_row::CommandRow;
 use crate::options::{
     ALLOW, APP, APP_LIKE, BARS, BEFORE, CHECKPOINT, COLOR, COMMIT, COMPARE_ALONE, CONNECTIONS,
     COPY_DIR, COUNT, COUNTED, COUNTS_JSON, DIALECT, DIR, DRY_RUN, ENDLESS, EXPIRE_UNDATED,
-    FACILITY, FILES, FRAMING, FROM, HEAD_HASH, HEAD_SIZE, HOST, HOST_LIKE, ID, IDLE, INHERITED,
-    JSON, KEEP, KEYS, LAST, LEFT, LEGACY, LF, MEMORY, MESSAGE, MICROS, MSGID, NEW_DIR, NOT_APP,
-    NOT_HOST, NOT_MESSAGE, OLD_FILE, ONLY_UNDATED, OUTPUT_FRAMING, PER_PEER, PERIOD, PORT, PROC,
-    PULL, PUSH, QUIET, READ_FORM, READ_ONLY, RECORD_MESSAGE, RECORDS, RIGHT, ROOM, SENT_APP,
+    FACILITY, FILES, FRAMING, FROM, FROM_START, HEAD_HASH, HEAD_SIZE, HOST, HOST_LIKE, ID, IDLE,
+    INHERITED, JSON, KEEP, KEYS, LAST, LEFT, LEGACY, LF, MEMORY, MESSAGE, MICROS, MSGID, NEW_DIR,
+    NOT_APP, NOT_HOST, NOT_MESSAGE, OLD_FILE, ONLY_UNDATED, OUTPUT_FRAMING, PER_PEER, PERIOD, PORT,
+    PROC, PULL, PUSH, QUIET, READ_FORM, READ_ONLY, RECORD_MESSAGE, RECORDS, RIGHT, ROOM, SENT_APP,
     SENT_FACILITY, SENT_FRAMING, SENT_HOST, SENT_MSGID, SENT_PROC, SENT_SEVERITY, SEVERITY, SPILL,
     SUMMARY, TIMEOUT, TOP, TRANSPORT, TRIM, UDP, UNDATED, UNIX, UNTIL, UNTIL_EOF, UP_TO, ZONE,
 };
@@ -180,6 +180,34 @@ pub const READ_COMMAND: CommandRow = CommandRow {
     ],
 };
 
+/// `follow`.
+pub const FOLLOW_COMMAND: CommandRow = CommandRow {
+    name: "follow",
+    about: "Write the records that a server commits to a store and that meet all conditions, as they come",
+    options: &[
+        DIR,
+        FROM,
+        UNTIL,
+        UNDATED,
+        ONLY_UNDATED,
+        SEVERITY,
+        FACILITY,
+        HOST,
+        APP,
+        PROC,
+        MSGID,
+        ID,
+        RECORD_MESSAGE,
+        HOST_LIKE,
+        APP_LIKE,
+        NOT_HOST,
+        NOT_APP,
+        NOT_MESSAGE,
+        FROM_START,
+        UNTIL_EOF,
+    ],
+};
+
 /// `verify`.
 pub const VERIFY_COMMAND: CommandRow = CommandRow {
     name: "verify",
@@ -298,7 +326,7 @@ pub const SERVE_COMMAND: CommandRow = CommandRow {
 };
 
 /// The commands, in the order of the help.
-pub const COMMANDS: [CommandRow; 28] = [
+pub const COMMANDS: [CommandRow; 29] = [
     SHOW_COMMAND,
     CHECK_COMMAND,
     CONVERT_COMMAND,
@@ -316,6 +344,7 @@ pub const COMMANDS: [CommandRow; 28] = [
     PROVE_COMMAND,
     CONFIRM_COMMAND,
     READ_COMMAND,
+    FOLLOW_COMMAND,
     VERIFY_COMMAND,
     STAT_COMMAND,
     COMPACT_COMMAND,

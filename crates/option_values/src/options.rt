@@ -642,6 +642,15 @@ pub const TIMEOUT: OptionRow = OptionRow {
     help: "Seconds of silence from the other side after which the command fails: 1 to 86400",
 };
 
+/// `--from-start` of `follow`.
+pub const FROM_START: OptionRow = OptionRow {
+    name: "from-start",
+    form: Form::Flag,
+    value: "",
+    kind: Kind::Text,
+    help: "Begin with the records that the store's journals hold",
+};
+
 /// `DEST` of `backup`.
 pub const COPY_DIR: OptionRow = OptionRow {
     name: "DEST",
@@ -752,7 +761,7 @@ pub const CHECKPOINT: OptionRow = OptionRow {
     help: "MiB that a journal may reach before a checkpoint: 1 to 2048",
 };
 
-/// `--until-eof` of `serve`.
+/// `--until-eof` of `serve` and `follow`.
 pub const UNTIL_EOF: OptionRow = OptionRow {
     name: "until-eof",
     form: Form::Flag,

@@ -155,9 +155,10 @@ fn other_words_are_a_usage_fault(rt: HostRuntime) -> Result<(), Fail> {
 
 #[test]
 fn what_only_a_program_has_is_a_fault(rt: HostRuntime) -> Result<(), Fail> {
-    let rows: [(&[&str], &[u8]); 12] = [
+    let rows: [(&[&str], &[u8]); 13] = [
         (&["archive", "--spill", "d"], b"spill fault\n"),
         (&["read", "d"], b"store fault\n"),
+        (&["follow", "d"], b"store fault\n"),
         (&["verify", "d"], b"store fault\n"),
         (&["stat", "d"], b"store fault\n"),
         (&["compact", "d"], b"store fault\n"),

@@ -9,7 +9,7 @@ use Rattle.archive_proof.specs.declared.records.RecordsFault.{RecordsFault}
 use Rattle.archive_proof.specs.declared.records.RecordsFault.TheVariants as records
 use Rattle.archive_proof.specs.declared.records.TheConstants.{ASKED_MAX}
 use Rattle.driver.specs.declared.status.TheConstants.{FAULT, NO_MEMORY, REFUSED}
-use Rattle.set_engine.specs.Ended.{Telling}
+use Rattle.driver.specs.Ended.{Telling}
 use Rattle.proof_engine.specs.Bounded.{GoesOn, IsCutOff, IsText}
 use Rattle.proof_engine.specs.declared.asking.AskingFault.{AskingFault}
 use Rattle.proof_engine.specs.declared.asking.AskingFault.TheVariants.{Read, TooLong, Bad, TooMany, Memory}

@@ -12,7 +12,7 @@ use Rattle.archive_proof.specs.declared.writing.TheConstants.{PROOF_MAX}
 use Rattle.archive_tree.specs.declared.head.TreeHead.{TreeHead}
 use Rattle.driver.specs.Devices.{Devices}
 use Rattle.driver.specs.declared.status.TheConstants.{DONE, FAULT, NO_MEMORY, REFUSED}
-use Rattle.set_engine.specs.Ended.{EndsAs, Telling}
+use Rattle.driver.specs.Ended.{EndsAs, Telling}
 use Rattle.proof_engine.specs.Asking.{AskingFailures, HasAsked, IsNotAsked, asking_line, asking_status, is_no_record}
 use Rattle.proof_engine.specs.Bounded.{GoesOn, IsCutOff, IsText, TextFailures}
 use Rattle.proof_engine.specs.declared.asking.AskingFault.{AskingFault}

@@ -9,7 +9,7 @@ use Rattle.archive_sets.specs.declared.fault.SelectFault.{SelectFault}
 use Rattle.archive_sets.specs.declared.fault.SelectFault.TheVariants.{Write}
 use Rattle.driver.specs.Devices.{Devices}
 use Rattle.driver.specs.declared.status.TheConstants.{DONE}
-use Rattle.set_engine.specs.Ended.{EndsAs, Telling}
+use Rattle.driver.specs.Ended.{EndsAs, Telling}
 use Rattle.set_engine.specs.Selecting.{is_no_archive, select_line, select_status}
 use Rattle.proof_engine.specs.Asking.{AskingFailures, HasAsked, IsNotAsked, asking_line, asking_status, is_no_record}
 use Rattle.proof_engine.specs.Proving.{HasProofs}

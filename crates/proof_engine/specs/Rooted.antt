@@ -13,7 +13,7 @@ use Rattle.archive_tree.specs.Archives.{IsRootOf}
 use Rattle.archive_tree.specs.declared.head.TreeHead.{TreeHead}
 use Rattle.driver.specs.Devices.{Devices}
 use Rattle.driver.specs.declared.status.TheConstants.{DONE}
-use Rattle.set_engine.specs.Ended.{EndsAs}
+use Rattle.driver.specs.Ended.{EndsAs}
 use Rattle.set_engine.specs.Selecting.{result_of, select_telling}
 
 -- COUNT ROOT: how many entries there are, and their Merkle tree hash

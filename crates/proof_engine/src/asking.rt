@@ -2,7 +2,7 @@
 
 ghost use Rattle.std.specs.Prelude.{MatchResult};
 ghost use Rattle.archive_proof.specs.Asking.{asked_entries};
-ghost use Rattle.set_engine.specs.Ended.{Tells};
+ghost use Rattle.driver.specs.Ended.{Tells};
 ghost use Rattle.proof_engine.specs.Asking.{AskingFailures, HasAsked, IsNotAsked, asking_telling};
 
 use crate::bounded::{TextFault, read_text};

@@ -5,7 +5,7 @@ ghost use Rattle.std.specs.List.{flat_map};
 ghost use Rattle.std.specs.Option.{option_map};
 ghost use Rattle.archive_proof.specs.Asking.{asked_entries};
 ghost use Rattle.driver.specs.Devices.{devices};
-ghost use Rattle.set_engine.specs.Ended.{Tells};
+ghost use Rattle.driver.specs.Ended.{Tells};
 ghost use Rattle.proof_engine.specs.Confirmed.{answer_line, ConfirmFailures, Confirmed, IsNotRead, IsTrailing};
 ghost use Rattle.proof_engine.specs.Confirmed.{RanConfirm, ReadFailures, Stopped, confirm_telling, shown_status};
 ghost use Rattle.proof_engine.specs.Saying.{HasRead, IsSaid};

@@ -2,7 +2,7 @@
 
 ghost use Rattle.std.specs.Prelude.{MatchResult};
 ghost use Rattle.driver.specs.Devices.{devices};
-ghost use Rattle.set_engine.specs.Ended.{Tells};
+ghost use Rattle.driver.specs.Ended.{Tells};
 ghost use Rattle.proof_engine.specs.Proved.{ProveFailures, Proved, RanProve, Stopped, prove_telling};
 
 use crate::asking::{AskingFault, read_asked, report_asking_fault};

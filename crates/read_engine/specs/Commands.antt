@@ -6,7 +6,7 @@ use Rattle.driver.specs.Devices.{Reports}
 use Rattle.driver.specs.declared.status.TheConstants.{DONE, FAULT, NO_MEMORY, REFUSED}
 use Rattle.driver.specs.declared.stopped.Stopped.{Stopped as Reason}
 use Rattle.driver.specs.declared.stopped.Stopped.TheVariants.{Diagnostics, Endless, Memory, Read, Write}
-use Rattle.set_engine.specs.Ended.{Tells}
+use Rattle.driver.specs.Ended.{Tells}
 use Rattle.archive_sets.specs.declared.range.InRange.{InRange}
 use Rattle.record_choice.specs.Choices.{choice_meaning}
 use Rattle.session_output.specs.Runs.{Outputs}

@@ -1,7 +1,7 @@
 //! What `read` of a store does: of the records that the store holds, those that meet conditions are written, or
 //! the last of them alone, as an archive or as what `convert` and `show` make of it.
 //!
-//! [`read_records`] is the command, over any folder.
+//! [`read_records`] is the command, over any folder. [`write_wanted`] chooses from records that come.
 #![tactic(auto)]
 
 mod choosing;
@@ -9,6 +9,8 @@ mod options;
 mod outcome;
 mod read;
 mod record_test;
+mod wanted;
 
 pub use options::{ReadForm, ReadOptions};
 pub use read::read_records;
+pub use wanted::write_wanted;

@@ -15,7 +15,7 @@ use Rattle.reconcile.specs.Ranges.{AreThose, IsInside, IsUnder}
 use Rattle.reconcile.specs.Unions.{IsJoined, IsPartly}
 use Rattle.reconcile.specs.declared.range.Range.{Range}
 
-at_index : (P : Entry → Type 0) (es : List Entry) (i : ℕ) (d : Entry) → AllByRecursion P es → i < length es
+pub at_index : (P : Entry → Type 0) (es : List Entry) (i : ℕ) (d : Entry) → AllByRecursion P es → i < length es
     → P (get_or es i d)
 at_index P [] i d h lt = absurd (omega arith)
 at_index P (y ∷ es) zero d h lt = h.0
@@ -93,7 +93,7 @@ dropped_ascending (y ∷ es) (suc i) h = dropped_ascending es i h.1
 
 -- ---- the entries of a range
 
-split_same : (xs : List Entry) (i : ℕ) → take i xs ++ drop i xs ≡ xs
+pub split_same : (xs : List Entry) (i : ℕ) → take i xs ++ drop i xs ≡ xs
 split_same xs zero = refl
 split_same [] (suc i) = refl
 split_same (x ∷ xs) (suc i) = ap (λ l. x ∷ l) (split_same xs i)

@@ -11,3 +11,5 @@ pub mod Found
 pub mod Locals
 pub mod Merges
 pub mod Texts
+pub mod AscendingParts
+pub mod Turned

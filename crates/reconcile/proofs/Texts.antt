@@ -1,6 +1,5 @@
 -- Facts on texts that are read behind others.
 use Rattle.std.proofs.Common.{◌≡◌, ℕ, ◌<◌, List, [], ◌∷◌, ◌++◌, sym, refl, ap, ◌∙◌, inl, inr, arith, length, append_assoc}
-use Rattle.std.specs.Prelude.{◌⊎◌}
 use Rattle.std.specs.List.{AllByRecursion}
 use Rattle.std.proofs.lemmas.List.{append-nil, length-append}
 use Rattle.archive_text.specs.Entries.{Entry, IsBelow}
@@ -9,7 +8,7 @@ use Rattle.archive_text.specs.Text.{BeginsWithEntry, IsArchive, entry_text, text
 use Rattle.archive_text.specs.declared.fault.ArchiveFault.{ArchiveFault}
 use Rattle.archive_text.specs.declared.fault.ArchiveFault.TheVariants.{NotAscending}
 use Rattle.archive_text.specs.declared.limits.TheConstants.{ENTRY_MAX}
-use Rattle.archive_text.proofs.Ascending.{archive_from, below_last}
+use Rattle.archive_text.proofs.Ascending.{below_last}
 use Rattle.archive_text.proofs.FaultLaws.{fault_later}
 use Rattle.archive_text.proofs.Prefixes.{IsStuck, fault_excludes, longest_stuck}
 use Rattle.archive_text.proofs.Texts.{text_push, text_some}

@@ -6,3 +6,4 @@ pub mod Reconciling
 pub mod Gossip
 pub mod Texts
 pub mod Merging
+pub mod Ascending

@@ -2,10 +2,12 @@
 
 ghost use Rattle.std.specs.Prelude.{◌≡◌, ◌↔◌, ◌≤◌, ◌++◌, All, IsTrue, OnOk, option_map};
 ghost use Rattle.std.specs.List.{AllByRecursion, sum_by};
+ghost use Rattle.archive_text.specs.Entries.{IsAscending};
 ghost use Rattle.reconcile.specs.Ranges.{Chain, Covers, IsInside, IsProper, IsUnder};
 ghost use Rattle.reconcile.specs.Requests.{AreCuts, IsCut, joined, lists_of};
 ghost use Rattle.reconcile.specs.declared.part.Part.{Part as the_part};
 
+use crate::ascending::{are_inside, do_ascend};
 use crate::part::Part;
 use crate::place::Place;
 use crate::range::Range;
@@ -49,11 +51,22 @@ pub fn is_covered(place: &Place, parts: &[Part]) -> bool
     }
 }
 
-/// Whether each place is in the range of one of the parts.
-pub fn are_covered(places: &[Place], parts: &[Part]) -> bool
+// Whether each place is in the range of one of the parts. Each place is compared with each part.
+fn are_all_covered(places: &[Place], parts: &[Part]) -> bool
     ensures { IsTrue result ↔ All (λ x. Covers parts.now x) places.now }
 {
     places.iter().all(|place| is_covered(place, parts))
+}
+
+/// Whether each of ascending places is in the range of one of the parts.
+pub fn are_covered(places: &[Place], parts: &[Part]) -> bool
+    requires { IsAscending places.now }
+    ensures { IsTrue result ↔ All (λ x. Covers parts.now x) places.now }
+{
+    if do_ascend(parts) {
+        return are_inside(places, parts);
+    }
+    are_all_covered(places, parts)
 }
 
 /// Whether the parts have ranges, each from where the one before ends, from one bound to another.

@@ -4,6 +4,7 @@
 //! [`MemorySet`] and [`LocalPeer`] are a set in memory, and a site in this very process.
 #![tactic(auto)]
 
+mod ascending;
 mod ask;
 mod checking;
 mod cutting;

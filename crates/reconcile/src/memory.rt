@@ -5,9 +5,11 @@ ghost use Rattle.archive_text.specs.Entries.{Entry, Has, IsAscending, IsEntry};
 ghost use Rattle.archive_text.specs.Text.{IsArchive};
 ghost use Rattle.archive_text.specs.declared.limits.TheConstants.{ENTRY_MAX};
 ghost use Rattle.archive_laws.specs.Props.{archive_prop};
+ghost use Rattle.reconcile.specs.Ascending.{DoAscend};
 ghost use Rattle.reconcile.specs.Ranges.{AreThose, Covers, IsInside};
 ghost use Rattle.reconcile.specs.Unions.{IsJoined, Joins};
 
+use crate::ascending::do_ascend;
 use crate::checking::is_covered;
 use crate::cutting::parts_of;
 use crate::merging::{copies_of, merge};
@@ -46,6 +48,22 @@ fn entries_in<'a>(places: &'a [Place], range: &Range) -> &'a [Place]
     }
 }
 
+// Those of some entries that are not among others.
+fn missing(alloc: Global, entries: &[Place], others: &[Place]) -> Result<Vec<Place>, SetFault>
+    requires entries { IsAscending entries.now }
+    requires others { IsAscending others.now }
+    ensures { IfOk result (λ those. AreThose (λ x. ¬ (Has others.now x)) entries.now those.items) }
+{
+    let mut those = Vec::new(alloc);
+    'entries: for entry in entries {
+        if has_place(others, entry) {
+            continue;
+        }
+        those.push(entry.copy(alloc)?)?;
+    }
+    Ok(those)
+}
+
 // Whether a place is in the range of one of the parts, and not among others.
 fn is_lacking(place: &Place, parts: &[Part], others: &[Place]) -> bool
     requires { IsAscending others.now }
@@ -54,8 +72,9 @@ fn is_lacking(place: &Place, parts: &[Part], others: &[Place]) -> bool
     is_covered(place, parts) && !has_place(others, place)
 }
 
-// Those entries of a set that are in the ranges of some parts, and not among others.
-fn lacking(
+// Those entries of a set that are in the ranges of some parts, and not among others. Each entry is
+// looked at for each part.
+fn lacking_one_by_one(
     alloc: Global,
     places: &[Place],
     parts: &[Part],
@@ -76,20 +95,44 @@ fn lacking(
     Ok(those)
 }
 
-// Those of some entries that are not among others.
-fn missing(alloc: Global, entries: &[Place], others: &[Place]) -> Result<Vec<Place>, SetFault>
-    requires entries { IsAscending entries.now }
+// The same, where the parts ascend. Each is sought, and only the entries in its range are looked at.
+fn lacking_part_by_part(
+    alloc: Global,
+    places: &[Place],
+    parts: &[Part],
+    others: &[Place],
+) -> Result<Vec<Place>, SetFault>
+    requires places { IsAscending places.now }
     requires others { IsAscending others.now }
-    ensures { IfOk result (λ those. AreThose (λ x. ¬ (Has others.now x)) entries.now those.items) }
+    requires parts { DoAscend parts.now }
+    ensures { IfOk result (λ those. AreThose (λ x. Covers parts.now x × ¬ (Has others.now x))
+        places.now those.items) }
 {
     let mut those = Vec::new(alloc);
-    'entries: for entry in entries {
-        if has_place(others, entry) {
-            continue;
-        }
-        those.push(entry.copy(alloc)?)?;
+    'parts: for part in parts {
+        let mut more = missing(alloc, entries_in(places, &part.range), others)?;
+        those.append(&mut more)?;
     }
     Ok(those)
+}
+
+// The same. Where the parts ascend, as they do between two sites, the work is a search for each
+// part and one for each entry in their ranges; else it is the number of entries times that of parts.
+fn lacking(
+    alloc: Global,
+    places: &[Place],
+    parts: &[Part],
+    others: &[Place],
+) -> Result<Vec<Place>, SetFault>
+    requires places { IsAscending places.now }
+    requires others { IsAscending others.now }
+    ensures { IfOk result (λ those. AreThose (λ x. Covers parts.now x × ¬ (Has others.now x))
+        places.now those.items) }
+{
+    if do_ascend(parts) {
+        return lacking_part_by_part(alloc, places, parts, others);
+    }
+    lacking_one_by_one(alloc, places, parts, others)
 }
 
 impl MemorySet {

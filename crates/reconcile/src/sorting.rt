@@ -27,8 +27,9 @@ pub struct Sorted {
     pub small: Vec<Part>,
 }
 
-/// Takes the last ones of the pending parts, and sorts those in which the own set differs.
-pub fn sort_parts<S: RangedSet>(
+// Takes the last ones of the pending parts, and sorts those in which the own set differs, the last
+// one first.
+fn pop_parts<S: RangedSet>(
     alloc: Global,
     own: &mut S,
     pending: &mut Vec<Part>,
@@ -65,4 +66,33 @@ pub fn sort_parts<S: RangedSet>(
         }
     }
     Ok(Sorted { large, small })
+}
+
+/// Takes the last ones of the pending parts, and sorts those in which the own set differs, in the
+/// order in which they were pending. So ranges that ascend are asked for in that order, and what is
+/// pending ascends once finer parts of them are put behind it.
+pub fn sort_parts<S: RangedSet>(
+    alloc: Global,
+    own: &mut S,
+    pending: &mut Vec<Part>,
+    plan: Plan,
+) -> Result<Sorted, Stopped>
+    ensures kept { S.entries own.new ≡ S.entries own.old }
+    ensures large { IfOk result (λ s.
+        AllByRecursion (λ (p : the_part). 2 ≤ p.sum.records) s.large.items) }
+    ensures costs { IfOk result (λ s. allowance pending.new.items + allowance s.large.items
+        + allowance s.small.items ≤ allowance pending.old.items) }
+    ensures within { IfOk result (λ s. (r : the_range) → AreWithin r pending.old.items
+        → AreWithin r (pending.new.items ++ (s.large.items ++ s.small.items))) }
+    ensures going { IfOk result (λ s. (r : the_range) (a b held : List Entry)
+        → IsArchive ENTRY_MAX a → IsArchive ENTRY_MAX b
+        → Going r a b (S.entries own.old) held pending.old.items
+        → Going r a b (S.entries own.old) held
+        (pending.new.items ++ (s.large.items ++ s.small.items))) }
+    ensures not_lied { IfErr result (λ e. e ≢ Lied) }
+{
+    let mut sorted = pop_parts(alloc, own, pending, plan)?;
+    sorted.large.reverse();
+    sorted.small.reverse();
+    Ok(sorted)
 }

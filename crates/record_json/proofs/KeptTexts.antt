@@ -1,5 +1,5 @@
 -- Names and timestamps, which a string has as they are.
-use Rattle.std.proofs.Common.{zero, suc, ◌/◌, [], ◌∷◌, ◌++◌, ◌≡◌, ℕ, ◌+◌, ◌%◌, ◌<◌, ◌≤◌, true, false, List, refl, sym, subst, arith}
+use Rattle.std.proofs.Common.{zero, suc, ◌/◌, [], ◌∷◌, ◌++◌, ◌≡◌, ℕ, ◌+◌, ◌%◌, false, List, refl, sym, subst, arith}
 use Rattle.std.specs.Prelude.{Some, ℤ}
 use Rattle.std.specs.List.{AllByRecursion}
 use Rattle.std.proofs.lemmas.Bool.Decides.{nat_tests}

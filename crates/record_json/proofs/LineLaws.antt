@@ -19,10 +19,6 @@ use Rattle.syslog_value.specs.Facilities.{facility_code}
 use Rattle.syslog_value.specs.Parts.{AnyOctets, ElementParts, IsMessage, IsOctets, IsRecord, MessageParts, ParamParts, Parts}
 use Rattle.syslog_value.specs.Parts.{Utf8Text}
 use Rattle.syslog_value.specs.Severities.{severity_code}
-use Rattle.syslog_value.specs.declared.facility.Facility.TheVariants as facility
-use Rattle.syslog_value.specs.declared.facility.TheConstants.Facility as facilities
-use Rattle.syslog_value.specs.declared.severity.Severity.TheVariants as severity
-use Rattle.syslog_value.specs.declared.severity.TheConstants.Severity as severities
 use Rattle.syslog_value.proofs.CivilTimes.{civil-injective}
 use Rattle.syslog_value.proofs.Tables.{severity_code-lt, facility_once, severity_once}
 use Rattle.syslog_fields.specs.Canonical.{TimeForm, civil_text}

@@ -4,12 +4,12 @@ use Rattle.std.proofs.Common.{◌∙◌, arith, inl, inr}
 use Rattle.std.specs.Prelude.{ℤ, ◌==◌, Option, Some, None, codes, decimal, nat_lt}
 use Rattle.std.specs.Char.{digit_char}
 use Rattle.std.specs.List.{AllByRecursion}
-use Rattle.std.proofs.lemmas.Bool.{eqb-true, ltb-false}
+use Rattle.std.proofs.lemmas.Bool.{ltb-false}
 use Rattle.std.proofs.lemmas.Bool.Decides.{nat_tests}
 use Rattle.std.proofs.lemmas.Grind.{common_steps}
 use Rattle.base64.specs.Engines.{standard}
 use Rattle.base64.specs.GeneralPurpose.{encode_of}
-use Rattle.json.specs.Json.{Json, boolean, null, string, Members, no_members, member}
+use Rattle.json.specs.Json.{Json, boolean, string, Members, no_members, member}
 use Rattle.json.specs.Print.{escape, escape_byte, escape_letter, print, quoted}
 use Rattle.json.specs.Tree.{json_tokens}
 use Rattle.octet_language.specs.Digits.{IsDigit}

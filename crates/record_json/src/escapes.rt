@@ -66,9 +66,10 @@ fn put_octets(octets: &[u8], out: &mut Vec<u8>) -> Result<(), AllocError>
     Ok(())
 }
 
-/// Appends what a string has for octets; those between two escapes go in one piece. If memory is
-/// refused, a part may have been appended.
-pub fn put_escaped(octets: &[u8], out: &mut Vec<u8>) -> Result<(), AllocError>
+/// Appends what a string has for octets, of which some need an escape; those between two of these go
+/// in one piece.
+#[inline(never)]
+fn put_pieces(octets: &[u8], out: &mut Vec<u8>) -> Result<(), AllocError>
     ensures { Puts (Only (escape octets.now)) out.old.items out.new.items result }
 {
     let mut rest = octets;
@@ -82,6 +83,17 @@ pub fn put_escaped(octets: &[u8], out: &mut Vec<u8>) -> Result<(), AllocError>
     put(rest, out)
 }
 
+/// Appends what a string has for octets: as they lie, if none of them needs an escape. If memory is
+/// refused, a part may have been appended.
+pub fn put_escaped(octets: &[u8], out: &mut Vec<u8>) -> Result<(), AllocError>
+    ensures { Puts (Only (escape octets.now)) out.old.items out.new.items result }
+{
+    match near_escaped(octets) {
+        None => put(octets, out),
+        Some(_offset) => put_pieces(octets, out),
+    }
+}
+
 /// Appends a quotation mark. It fails only when out of memory.
 #[inline(always)]
 pub fn put_quote(out: &mut Vec<u8>) -> Result<(), AllocError>
@@ -92,6 +104,7 @@ pub fn put_quote(out: &mut Vec<u8>) -> Result<(), AllocError>
 }
 
 /// Appends octets as a string. If memory is refused, a part may have been appended.
+#[inline(always)]
 pub fn put_string(octets: &[u8], out: &mut Vec<u8>) -> Result<(), AllocError>
     ensures { Puts (Only (quoted octets.now)) out.old.items out.new.items result }
 {

@@ -42,6 +42,7 @@ fn put_number(value: u8, out: &mut Vec<u8>) -> Result<(), AllocError>
 }
 
 /// Appends a name that needs no escape behind its key.
+#[inline(always)]
 fn put_name(key: &[u8], name: &str, out: &mut Vec<u8>) -> Result<(), AllocError>
     requires { escape name.now ≡ name.now }
     ensures { Puts (Only (key.now ++ quoted name.now)) out.old.items out.new.items result }
@@ -89,6 +90,7 @@ fn put_time(instant: Option<Instant>, out: &mut Vec<u8>) -> Result<(), AllocErro
 }
 
 /// Appends a word behind its key.
+#[inline(always)]
 fn put_word(key: &[u8], word: Option<&[u8]>, out: &mut Vec<u8>) -> Result<(), AllocError>
     ensures { Puts (Only (key.now ++ word_text (option_map (λ s. s.now) word.entry)))
         out.old.items out.new.items result }
@@ -160,6 +162,7 @@ fn put_any(octets: &[u8], out: &mut Vec<u8>) -> Result<(), AllocError>
 }
 
 /// Appends the message, the brace that ends the object, and a line feed.
+#[inline(always)]
 fn put_message(message: &MessageView<'_>, out: &mut Vec<u8>) -> Result<(), AllocError>
     ensures { Puts (MessageText (message_parts message.now)) out.old.items out.new.items result }
 {

@@ -56,5 +56,14 @@ pub fn near_escaped(octets: &[u8]) -> Option<usize>
             return Some(at);
         }
     }
-    escaped_from(octets, at)
+    if octets.len() < LANES {
+        return escaped_from(octets, at);
+    }
+    // the last sixteen octets, of which some may have been looked at
+    let last = octets.len() - LANES;
+    let run = kept_run(octets, last);
+    if run < LANES {
+        return Some(last + run);
+    }
+    None
 }

@@ -6,8 +6,8 @@ use Rattle.journal.specs.Batches.{HasBatches}
 use Rattle.archive_text.specs.Entries.{Entry, Has, IsEntry}
 use Rattle.archive_text.specs.Text.{IsArchive, text_of}
 use Rattle.archive_text.specs.declared.limits.TheConstants.{ENTRY_MAX}
-use Rattle.archive_digest.specs.Periods.{IsIn}
-use Rattle.archive_digest.specs.declared.period.Period.TheVariants.{Day}
+use Rattle.archive_text.specs.Periods.{IsIn}
+use Rattle.archive_text.specs.declared.period.Period.TheVariants.{Day}
 use Rattle.record_store.specs.Names.{IsJournal, IsSegment}
 use Rattle.record_store.specs.Seals.{HidesBatches, Seals}
 

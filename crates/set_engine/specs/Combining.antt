@@ -10,7 +10,7 @@ use Rattle.archive_join.specs.declared.fault.JoinFault.{JoinFault}
 use Rattle.archive_join.specs.declared.fault.JoinFault.TheVariants.{Archive, Read, Endless, Write, Memory}
 use Rattle.archive_engine.specs.FaultLines.{fault_words}
 use Rattle.driver.specs.declared.status.TheConstants.{DONE, FAULT, NO_MEMORY, REFUSED}
-use Rattle.set_engine.specs.Ended.{EndsAs, Telling}
+use Rattle.driver.specs.Ended.{EndsAs, Telling}
 use Rattle.set_engine.specs.declared.combination.Combination.{Combination}
 use Rattle.set_engine.specs.declared.combination.Combination.TheVariants.{Union, Common, Minus, Diff}
 

@@ -7,7 +7,7 @@ use Rattle.archive_sets.specs.declared.fault.SelectFault.{SelectFault}
 use Rattle.archive_sets.specs.declared.fault.SelectFault.TheVariants.{Memory}
 use Rattle.driver.specs.Devices.{Devices}
 use Rattle.driver.specs.declared.status.TheConstants.{DONE}
-use Rattle.set_engine.specs.Ended.{EndsAs}
+use Rattle.driver.specs.Ended.{EndsAs}
 use Rattle.set_engine.specs.Selecting.{result_of, select_telling}
 
 -- the lines of the archive on the input were written

@@ -1,13 +1,13 @@
 -- What `digest` does.
 use Rattle.std.specs.Prelude.{◌≡◌, ℕ, Option, None, Some}
 use Rattle.archive_digest.specs.Digested.{Digested, Stopped}
-use Rattle.archive_digest.specs.declared.period.Period.{Period}
+use Rattle.archive_text.specs.declared.period.Period.{Period}
 use Rattle.archive_sets.specs.Failures.{TellsFailures}
 use Rattle.archive_sets.specs.declared.fault.SelectFault.{SelectFault}
 use Rattle.archive_sets.specs.declared.fault.SelectFault.TheVariants.{Memory}
 use Rattle.driver.specs.Devices.{Devices}
 use Rattle.driver.specs.declared.status.TheConstants.{DONE}
-use Rattle.set_engine.specs.Ended.{EndsAs}
+use Rattle.driver.specs.Ended.{EndsAs}
 use Rattle.set_engine.specs.Selecting.{result_of, select_telling}
 
 -- the digest of the archive on the input was written

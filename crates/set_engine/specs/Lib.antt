@@ -1,4 +1,3 @@
-pub mod Ended
 pub mod Selecting
 pub mod Combining
 pub mod Digesting

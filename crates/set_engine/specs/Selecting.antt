@@ -8,7 +8,7 @@ use Rattle.archive_sets.specs.declared.fault.SelectFault.TheVariants.{Archive, R
 use Rattle.archive_engine.specs.FaultLines.{fault_words}
 use Rattle.driver.specs.Devices.{Devices}
 use Rattle.driver.specs.declared.status.TheConstants.{DONE, FAULT, NO_MEMORY, REFUSED}
-use Rattle.set_engine.specs.Ended.{EndsAs, Telling}
+use Rattle.driver.specs.Ended.{EndsAs, Telling}
 
 abbrev pub select_line : SelectFault → List ℕ
 select_line (Archive fault) = fault_words fault

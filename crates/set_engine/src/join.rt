@@ -4,7 +4,7 @@ ghost use Rattle.std.specs.Prelude.{◌≡◌, ◌++◌, IfOk, codes, map};
 ghost use Rattle.set_engine.specs.Combining.{RanJoin, RanJoinBy, input_words, join_telling};
 ghost use Rattle.set_engine.specs.Combining.{joined_status, refused_status};
 ghost use Rattle.archive_engine.specs.FaultLines.{fault_words};
-ghost use Rattle.set_engine.specs.Ended.{Tells, TellsLine};
+ghost use Rattle.driver.specs.Ended.{Tells, TellsLine};
 
 use crate::combination::Combination;
 use archive_engine::report_archive_fault;

@@ -1,7 +1,7 @@
 //! `select`: the records of an archive that meet a condition.
 
 ghost use Rattle.driver.specs.Devices.{devices};
-ghost use Rattle.set_engine.specs.Ended.{Tells};
+ghost use Rattle.driver.specs.Ended.{Tells};
 ghost use Rattle.set_engine.specs.Selecting.{RanSelect, select_telling};
 
 use archive_engine::report_archive_fault;

@@ -3,13 +3,13 @@ use Rattle.std.specs.Prelude.{◌≡◌, ◌≢◌, ◌⊎◌, ℕ, List, Option
 use Rattle.octet_devices.specs.Device.{OutputState}
 use Rattle.driver.specs.Devices.{Reports}
 use Rattle.driver.specs.declared.status.TheConstants.{DONE, FAULT, NO_MEMORY}
-use Rattle.set_engine.specs.Ended.{Tells, TellsLine}
+use Rattle.driver.specs.Ended.{Tells, TellsLine}
 use Rattle.store_engine.specs.Reading.{read_telling}
 use Rattle.store_site.specs.declared.fault.SetReadFault.{SetReadFault}
 use Rattle.store_site.specs.declared.fault.SetReadFault.TheVariants.{Read, NoArchive, TooMuch, Memory}
 use Rattle.site_engine.specs.Lines.{answer_line, summary_line, summary_status}
 use Rattle.site_engine.specs.declared.fault.SiteFault.{SiteFault}
-use Rattle.site_engine.specs.declared.fault.SiteFault.TheVariants.{Set, Pipe, Stopped, Add, TakesNone}
+use Rattle.site_engine.specs.declared.fault.SiteFault.TheVariants.{Set, Pipe, Stopped, Add}
 use Rattle.site_engine.specs.declared.fault.SiteFault.TheVariants.{Memory as site_Memory}
 use Rattle.site_engine.specs.declared.summary.Summary.{Summary}
 
@@ -29,7 +29,6 @@ TellsFault (Set Memory) n n_new result = TellsOther n n_new result
 TellsFault (Pipe fault) n n_new result = TellsOther n n_new result
 TellsFault (Stopped stopped) n n_new result = TellsOther n n_new result
 TellsFault (Add fault) n n_new result = TellsOther n n_new result
-TellsFault TakesNone n n_new result = TellsOther n n_new result
 TellsFault site_Memory n n_new result = TellsOther n n_new result
 
 -- what crossed is told where the exchange came to its end, or else why it did not

@@ -70,10 +70,6 @@ fn ask<S: RangedSet, R: Input + Drop, W: Output + Drop>(
     let mut pipe = PipePeer::new(alloc, input, output, exchange.room);
     pipe.greet()?;
     let takes = !pipe.is_read_only();
-    if !takes && !exchange.does_pull() {
-        pipe.finish()?;
-        return Err(SiteFault::TakesNone);
-    }
     let mut peer = Directed::new(pipe, takes && exchange.does_push() && !exchange.is_dry);
     match reconcile_ranges(alloc, own, &mut peer, ranges.as_slice()) {
         Ok(()) => {}
@@ -130,12 +126,13 @@ fn ask_in_memory<R: Input + Drop, W: Output + Drop>(
         return Ok(summary);
     }
     let after = amount_in(alloc, &mut set)?;
+    let takes = !peer.peer.is_read_only();
     Ok(Summary {
         requests: summary.requests,
-        sent: amount_if(exchange.does_push(), peer.held_back),
+        sent: amount_if(takes && exchange.does_push(), peer.held_back),
         got: amount_if(exchange.does_pull(), difference(after, before)),
         is_dry: true,
-        not_taken: 0,
+        not_taken: if takes { 0 } else { summary.not_taken },
     })
 }
 

@@ -17,8 +17,6 @@ pub(crate) enum SiteFault {
     Stopped(Stopped),
     /// Records were not added to the own store.
     Add(AddFault),
-    /// The other site takes no records, and nothing else was to be done.
-    TakesNone,
     /// An allocation failed.
     Memory,
 }

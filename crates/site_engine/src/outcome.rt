@@ -2,7 +2,7 @@
 
 ghost use Rattle.std.specs.Prelude.{◌≡◌, ◌⊎◌, IfOk, List, ℕ};
 ghost use Rattle.driver.specs.declared.status.TheConstants.{FAULT, NO_MEMORY};
-ghost use Rattle.set_engine.specs.Ended.{TellsLine};
+ghost use Rattle.driver.specs.Ended.{TellsLine};
 ghost use Rattle.site_engine.specs.Lines.{answer_line, summary_line, summary_status};
 ghost use Rattle.site_engine.specs.Telling.{TellsFault, TellsOther};
 
@@ -51,14 +51,15 @@ pub(crate) fn report_answer<N: Output>(alloc: Global, summary: &Summary, diagnos
 // The line on a pipe that failed, or on what the other site says.
 fn pipe_line(fault: PipeFault) -> &'static [u8] {
     match fault {
-        PipeFault::Input => b"the peer cannot be read from\n",
-        PipeFault::Output => b"the peer cannot be written to\n",
-        PipeFault::Ended => b"the peer ended the exchange\n",
-        PipeFault::Failed => b"the peer failed\n",
-        PipeFault::Refused => b"the peer takes no records\n",
-        PipeFault::Version => b"the peer does not speak version 1 of the exchange\n",
-        PipeFault::Lied => b"the peer's answer cannot be so\n",
-        PipeFault::TooMuch => b"more came than there is room for\n",
+        PipeFault::Input => b"the other site cannot be read from\n",
+        PipeFault::Output => b"the other site cannot be written to\n",
+        PipeFault::Ended => b"the other site ended the exchange\n",
+        PipeFault::Failed => b"the other site failed\n",
+        PipeFault::Refused => b"the other site takes no records\n",
+        PipeFault::Version =>
+            b"the other site does not speak version 1 of the exchange: does its shell print something first?\n",
+        PipeFault::Lied => b"what the other site says cannot be so\n",
+        PipeFault::TooMuch => b"more came than --room allows\n",
         PipeFault::Own(SetFault::Failed) => b"store fault\n",
         PipeFault::Own(SetFault::Memory) | PipeFault::Memory => NO_MEMORY_LINE,
     }
@@ -68,9 +69,9 @@ fn pipe_line(fault: PipeFault) -> &'static [u8] {
 fn stopped_line(stopped: Stopped) -> &'static [u8] {
     match stopped {
         Stopped::Broken => b"the connection failed\n",
-        Stopped::Lied => b"the peer's answer cannot be so\n",
+        Stopped::Lied => b"what the other site says cannot be so\n",
         Stopped::TooMany => b"too many requests\n",
-        Stopped::TooMuch => b"more came than there is room for\n",
+        Stopped::TooMuch => b"more came than --room allows\n",
         Stopped::Own(SetFault::Failed) => b"store fault\n",
         Stopped::Own(SetFault::Memory) | Stopped::Memory => NO_MEMORY_LINE,
     }
@@ -90,7 +91,6 @@ fn fault_line(fault: &SiteFault) -> &'static [u8] {
         SiteFault::Pipe(fault) => pipe_line(*fault),
         SiteFault::Stopped(stopped) => stopped_line(*stopped),
         SiteFault::Add(fault) => add_line(fault),
-        SiteFault::TakesNone => b"the peer takes no records\n",
         SiteFault::Set(SetReadFault::TooMuch) => b"more records than there is room for\n",
         SiteFault::Set(SetReadFault::Read(_)) | SiteFault::Set(SetReadFault::NoArchive) => {
             b"store fault\n"

@@ -20,7 +20,7 @@ pub use answer::{Answer, write_answer};
 pub use gap::Gap;
 pub use limits::{
     LINE_MAX, MESSAGE_MAX, MOST_MAX, MOST_MIN, PART_MAX, PARTS_MAX, PAYLOAD_MAX, PLACE_MAX,
-    RANGES_MAX,
+    PUT_COST, PUTS_MAX, RANGES_MAX,
 };
 pub use part_text::{PartView, read_part, write_part, write_parts};
 pub use range_text::{RangeView, range_size, read_range, write_range, write_ranges};

@@ -24,5 +24,12 @@ pub const PARTS_MAX: u64 = 16_384;
 /// The most octets of the records, ranges or parts of a message, unless it is one.
 pub const PAYLOAD_MAX: u64 = 16_777_216;
 
+/// The most puts of an exchange.
+pub const PUTS_MAX: u64 = 512;
+
+/// What a put costs of the room at least, however few records it has: each may make 65 files of a store, of a
+/// page of the disk each.
+pub const PUT_COST: u64 = 266_240;
+
 /// The most octets of a request, or of an answer.
 pub const MESSAGE_MAX: u64 = 67_108_864;

@@ -1,11 +1,11 @@
 //! A set answers what it is asked over a pipe.
 
-ghost use Rattle.std.specs.Prelude.{◌≡◌, ◌↔◌, ◌≤◌, ◌+◌, List, Some, IfOk, IsTrue, OnOk, length, option_map};
+ghost use Rattle.std.specs.Prelude.{◌≡◌, ◌↔◌, ◌≤◌, ◌<◌, ◌+◌, List, Some, IfOk, IsTrue, OnOk, length, option_map};
 ghost use Rattle.std.specs.Bool.{IsFalse};
 ghost use Rattle.archive_text.specs.Entries.{Entry};
 ghost use Rattle.archive_text.specs.Text.{text_of};
 ghost use Rattle.reconcile.specs.Unions.{IsJoined};
-ghost use Rattle.site_messages.specs.declared.limits.TheConstants.{PAYLOAD_MAX, RANGES_MAX};
+ghost use Rattle.site_messages.specs.declared.limits.TheConstants.{PAYLOAD_MAX, PUT_COST, RANGES_MAX};
 ghost use Rattle.site_pipe.specs.Answering.{DoAscend, Follows, Keeps};
 
 use crate::asking::Pipe;
@@ -14,8 +14,8 @@ use crate::traffic::Traffic;
 use octet_devices::{Input, Output};
 use reconcile::{Part, Place, Range, RangedSet, Records, Sum, write_records};
 use site_messages::{
-    Answer, MESSAGE_MAX, MOST_MAX, MOST_MIN, PAYLOAD_MAX, RANGES_MAX, Request, write_answer,
-    write_parts,
+    Answer, MESSAGE_MAX, MOST_MAX, MOST_MIN, PAYLOAD_MAX, PUT_COST, PUTS_MAX, RANGES_MAX, Request,
+    entry_size, write_answer, write_parts,
 };
 use std::alloc::Global;
 
@@ -79,6 +79,15 @@ fn put_parts(text: &mut Vec<u8>, parts: &[Part]) -> Result<(), PipeFault> {
     )?;
     write_parts(text, parts)?;
     Ok(())
+}
+
+// How many octets the archive of records has, at most.
+fn octets_of(records: &Records) -> u64 {
+    let mut octets: u64 = 0;
+    for entry in records.entries() {
+        octets = octets.saturating_add(entry_size(entry));
+    }
+    octets
 }
 
 impl<R: Input, W: Output> Pipe<R, W> {
@@ -158,6 +167,9 @@ impl<R: Input, W: Output> Pipe<R, W> {
     {
         let asked = self.read_ranges(ranges)?;
         let records = set.within(asked.as_slice())?;
+        if octets_of(&records) > MESSAGE_MAX {
+            return Err(PipeFault::TooMuch);
+        }
         let mut archive = Vec::new(self.alloc);
         write_records(&mut archive, &records)?;
         let octets = archive.len() as u64;
@@ -169,19 +181,21 @@ impl<R: Input, W: Output> Pipe<R, W> {
         Ok(())
     }
 
-    // Reads the records that are put, if there is room for them.
+    // Reads the records that are put, if there is room for them and for the files that they may make.
     fn read_put(&mut self, octets: u64, room: &mut u64) -> Result<Records, PipeFault>
         ensures count { IfOk result (λ records. length (text_of records) ≡ octets) }
         ensures few { OnOk result (octets ≤ PAYLOAD_MAX) }
-        ensures room { OnOk result (room.new + octets ≡ room.old) }
+        ensures room { OnOk result (room.new + octets ≤ room.old) }
+        ensures cost { OnOk result (room.new + PUT_COST ≤ room.old) }
     {
         if octets > PAYLOAD_MAX {
             return Err(PipeFault::Lied);
         }
-        if octets > *room {
+        let cost = octets.max(PUT_COST);
+        if cost > *room {
             return Err(PipeFault::TooMuch);
         }
-        *room -= octets;
+        *room -= cost;
         let mut records = Records::new(self.alloc);
         self.inlet.records(&mut records, octets as usize)?;
         self.traffic.got.add_records(records.len());
@@ -193,8 +207,9 @@ impl<R: Input, W: Output> Pipe<R, W> {
 #[derive(Clone, Copy)]
 struct Leave {
     is_read_only: bool,
-    // how many octets of records may be put yet
+    // how many octets of records may be put yet, and how often
     room: u64,
+    puts: u64,
 }
 
 impl Leave {
@@ -211,7 +226,12 @@ impl Leave {
         ensures kept { OnOk result (IsFalse self.old.is_read_only → (es : List Entry)
             × (length (text_of es) ≡ octets)
             × IsJoined (S.entries set.old) es (S.entries set.new)) }
+        ensures few { OnOk result (self.new.puts < self.old.puts) }
     {
+        if self.puts == 0 {
+            return Err(PipeFault::TooMuch);
+        }
+        self.puts -= 1;
         let records = pipe.read_put(octets, &mut self.room)?;
         if self.is_read_only {
             return pipe.say(Answer::Refused);
@@ -292,7 +312,8 @@ impl Leave {
 }
 
 /// Answers what a peer asks of a set, until it ends the exchange. Records that it puts are added,
-/// unless the set is read only; all together they have at most `room` octets.
+/// unless the set is read only; all together they have at most `room` octets, each put counting as
+/// `PUT_COST` at least, and there are at most `PUTS_MAX`.
 ///
 /// # Errors
 /// The first fault that is met; the peer is told that the answer failed. What came before it stays.
@@ -308,7 +329,11 @@ pub fn answer<S: RangedSet, R: Input + Drop, W: Output + Drop>(
     ensures read_only { IsTrue is_read_only → S.entries set.new ≡ S.entries set.old }
 {
     let mut pipe = Pipe::new(alloc, input, output, u64::MAX);
-    let mut leave = Leave { is_read_only, room };
+    let mut leave = Leave {
+        is_read_only,
+        room,
+        puts: PUTS_MAX,
+    };
     match leave.serve(set, &mut pipe) {
         Ok(()) => Ok(pipe.traffic()),
         Err(PipeFault::Output) => Err(PipeFault::Output),

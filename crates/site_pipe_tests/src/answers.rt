@@ -27,7 +27,7 @@ fn each_request_is_answered(rt: HostRuntime) -> Result<(), Fail> {
     let alloc = rt.alloc();
     for size in [1, 7, 4096] {
         let mut set = set_of(alloc, &[1])?;
-        let (text, end) = answers_to(alloc, &mut set, false, 1000, ASKED, size);
+        let (text, end) = answers_to(alloc, &mut set, false, 1_000_000, ASKED, size);
         assert!(rt; end.is_ok());
         assert_eq!(rt; set.len(), 2);
         expect(text.as_slice(), b"syslogbox answer 1\n", b"kept\n")?;
@@ -39,7 +39,7 @@ fn each_request_is_answered(rt: HostRuntime) -> Result<(), Fail> {
 fn a_set_that_is_read_only_stays(rt: HostRuntime) -> Result<(), Fail> {
     let alloc = rt.alloc();
     let mut set = set_of(alloc, &[1])?;
-    let (text, end) = answers_to(alloc, &mut set, true, 1000, ASKED, 4096);
+    let (text, end) = answers_to(alloc, &mut set, true, 1_000_000, ASKED, 4096);
     assert!(rt; end.is_ok());
     assert_eq!(rt; set.len(), 1);
     expect(
@@ -69,7 +69,7 @@ fn what_may_not_be_asked_is_refused(rt: HostRuntime) -> Result<(), Fail> {
         ),
         (b"get 1\nrange - 1 b - 1 b\n", PipeFault::Lied),
         (b"put 16777217\n", PipeFault::Lied),
-        (b"put 1001\n", PipeFault::TooMuch),
+        (b"put 1000001\n", PipeFault::TooMuch),
         (b"put 6\n3 abc", PipeFault::Ended),
         (b"put 5\n3 abc", PipeFault::Lied),
         (b"syslogbox reconcile 1\n", PipeFault::Lied),
@@ -82,9 +82,26 @@ fn what_may_not_be_asked_is_refused(rt: HostRuntime) -> Result<(), Fail> {
         let mut set = set_of(alloc, &[1])?;
         let mut asked = Vec::from_slice(alloc, b"syslogbox reconcile 1\n")?;
         asked.extend_from_slice(request)?;
-        let (text, end) = answers_to(alloc, &mut set, false, 1000, asked.as_slice(), 1);
+        let (text, end) = answers_to(alloc, &mut set, false, 1_000_000, asked.as_slice(), 1);
         assert_eq!(rt; text.as_slice(), b"syslogbox answer 1\nfailed\n".as_slice());
         assert!(rt; end == Err(fault));
+    }
+    Ok(())
+}
+
+#[test]
+fn each_put_costs_room(rt: HostRuntime) -> Result<(), Fail> {
+    let alloc = rt.alloc();
+    let asked = b"syslogbox reconcile 1\nput 0\nput 0\nput 0\n";
+    for (room, kept) in [(0, 0), (266_239, 0), (266_240, 1), (532_480, 2)] {
+        let mut set = set_of(alloc, &[1])?;
+        let (text, end) = answers_to(alloc, &mut set, false, room, asked, 4096);
+        let lines = text.split(|octet| *octet == b'\n');
+        assert_eq!(rt;
+            lines.filter(|line| *line == b"kept".as_slice()).count(),
+            kept
+        );
+        assert!(rt; end == Err(PipeFault::TooMuch));
     }
     Ok(())
 }

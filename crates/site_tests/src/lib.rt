@@ -3,3 +3,7 @@
 
 #[cfg(test)]
 mod meetings;
+#[cfg(test)]
+mod ranges;
+#[cfg(test)]
+mod sets;

@@ -1,27 +1,9 @@
 //! Two sites in memory are reconciled.
 
-use reconcile::{LocalPeer, MemorySet, Place, Plan, Range, reconcile};
+use crate::sets::{Numbers, are_one, set_of, whole};
+use reconcile::{LocalPeer, MemorySet, Plan, reconcile};
 use std::alloc::Global;
 use std::test::Fail;
-
-// Every so many of the records with the first numbers.
-#[derive(Clone, Copy)]
-struct Numbers {
-    every: usize,
-    below: usize,
-}
-
-// A set of the records `<0>1 - - - - - - ` and a number.
-fn set_of(alloc: Global, numbers: Numbers) -> Result<MemorySet, Fail> {
-    let mut set = MemorySet::new(alloc);
-    for number in 0..numbers.below {
-        if number % numbers.every.max(1) == 0 {
-            let text = format!(in alloc; "<0>1 - - - - - - {number:05}")?;
-            set.insert(text.as_bytes()).ok().ok_or("not inserted")?;
-        }
-    }
-    Ok(set)
-}
 
 // Reconciles two sets, and answers both.
 fn meet(
@@ -31,27 +13,10 @@ fn meet(
     plan: Plan,
 ) -> Result<(MemorySet, MemorySet), Fail> {
     let mut peer = LocalPeer::new(alloc, other);
-    let whole = Range {
-        low: Place::first(alloc),
-        high: None,
-    };
-    reconcile(alloc, &mut own, &mut peer, &whole, plan)
+    reconcile(alloc, &mut own, &mut peer, &whole(alloc), plan)
         .ok()
         .ok_or("not reconciled")?;
     Ok((own, peer.into_set()))
-}
-
-// Whether both sets have the same records, so many.
-fn are_one(a: &MemorySet, b: &MemorySet, count: usize) -> bool {
-    if a.len() != count || b.len() != count {
-        return false;
-    }
-    for index in 0..count {
-        if a.get(index) != b.get(index) {
-            return false;
-        }
-    }
-    true
 }
 
 // Whether two sites come to be one by a plan, with so many records.

@@ -4,7 +4,7 @@ use Rattle.octet_devices.specs.Device.{OutputState}
 use Rattle.disk.specs.declared.fault.DiskFault.{DiskFault}
 use Rattle.disk.specs.declared.fault.DiskFault.TheVariants.{Missing, Exists, Full, Failed, Memory}
 use Rattle.driver.specs.declared.status.TheConstants.{FAULT}
-use Rattle.set_engine.specs.Ended.{TellsLine}
+use Rattle.driver.specs.Ended.{TellsLine}
 use Rattle.store_engine.specs.Reading.{disk_line, disk_status}
 
 -- any of these but want of memory

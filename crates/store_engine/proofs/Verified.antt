@@ -7,7 +7,7 @@ use Rattle.octet_devices.specs.Device.{OutputState}
 use Rattle.octet_devices.specs.Transfers.{WroteAll, WrotePart}
 use Rattle.driver.proofs.Known.{wrote_nothing}
 use Rattle.disk.specs.States.{Files}
-use Rattle.set_engine.specs.Ended.{Tells}
+use Rattle.driver.specs.Ended.{Tells}
 use Rattle.store_reading.specs.Causes.{IsCause}
 use Rattle.store_reading.specs.declared.fault.ReadFault.{ReadFault}
 use Rattle.store_reading.specs.declared.fault.ReadFault.TheVariants.{Folder, Open, Damaged, Read, Gone, TooManyDays}

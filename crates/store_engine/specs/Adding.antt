@@ -9,7 +9,7 @@ use Rattle.archive_streams.specs.declared.fault.SideFault.TheVariants.{Archive, 
 use Rattle.driver.specs.Devices.{Reports}
 use Rattle.driver.specs.declared.status.TheConstants.{DONE, FAULT, NO_MEMORY, REFUSED}
 use Rattle.record_store.specs.declared.keeping.KeepFault.TheVariants.{Disk, Day, Differs}
-use Rattle.set_engine.specs.Ended.{Telling, Tells}
+use Rattle.driver.specs.Ended.{Telling, Tells}
 use Rattle.store_addition.specs.Additions.{AddsPart, AddsWhole, FailuresAt}
 use Rattle.store_addition.specs.declared.addition.Addition.{Addition}
 use Rattle.store_addition.specs.declared.fault.AddFault.{AddFault}

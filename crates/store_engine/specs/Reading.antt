@@ -8,7 +8,7 @@ use Rattle.archive_sets.specs.declared.range.InRange.{InRange}
 use Rattle.archive_streams.specs.declared.fault.InputFault.{InputFault}
 use Rattle.archive_streams.specs.declared.fault.InputFault.TheVariants.{Device, Endless}
 use Rattle.driver.specs.declared.status.TheConstants.{DONE, FAULT, NO_MEMORY, REFUSED}
-use Rattle.set_engine.specs.Ended.{EndsAs, Telling}
+use Rattle.driver.specs.Ended.{EndsAs, Telling}
 use Rattle.store_reading.specs.Causes.{IsCause, WriterFailures, reading_causes}
 use Rattle.store_reading.specs.Sets.{WritesPart, WritesSet}
 use Rattle.store_reading.specs.Whole.{IsWholeIn}

@@ -4,7 +4,7 @@ use Rattle.disk.specs.States.{Files}
 use Rattle.octet_devices.specs.Device.{OutputState}
 use Rattle.octet_devices.specs.Transfers.{WroteAll, WrotePart}
 use Rattle.driver.specs.declared.status.TheConstants.{DONE, REFUSED}
-use Rattle.set_engine.specs.Ended.{EndsAs}
+use Rattle.driver.specs.Ended.{EndsAs}
 use Rattle.store_reading.specs.Causes.{IsCause}
 use Rattle.store_reading.specs.declared.fault.ReadFault.{ReadFault}
 use Rattle.store_reading.specs.declared.fault.ReadFault.TheVariants.{Write}

@@ -1,7 +1,7 @@
 //! `add`: the records of an archive, into a store.
 ghost use Rattle.std.specs.Prelude.{◌≡◌, ◌++◌, IfOk, codes, decimal};
 ghost use Rattle.driver.specs.Devices.{Reports};
-ghost use Rattle.set_engine.specs.Ended.{Tells};
+ghost use Rattle.driver.specs.Ended.{Tells};
 ghost use Rattle.store_engine.specs.Adding.{IsAddedLine, RanAdd, TellsAdded, TellsInterrupted, add_telling};
 ghost use Rattle.store_engine.specs.Reading.{disk_line, disk_status};
 

@@ -2,7 +2,7 @@
 ghost use Rattle.std.specs.Prelude.{◌≡◌, ◌++◌, ◌⊎◌, ◌↔◌, IfErr, IfOk, IsTrue, codes};
 ghost use Rattle.driver.specs.Devices.{Reports};
 ghost use Rattle.archive_engine.specs.FaultLines.{fault_line};
-ghost use Rattle.set_engine.specs.Ended.{TellsLine};
+ghost use Rattle.driver.specs.Ended.{TellsLine};
 ghost use Rattle.store_engine.specs.Lines.{damage_line, file_line, position_line};
 ghost use Rattle.store_engine.specs.NoStores.{IsOfMemory};
 

@@ -1,7 +1,7 @@
 //! `read`: the archive of what a store holds.
 ghost use Rattle.std.specs.Prelude.{◌≡◌, ◌++◌, codes};
 ghost use Rattle.driver.specs.Devices.{Reports};
-ghost use Rattle.set_engine.specs.Ended.{Tells, TellsLine};
+ghost use Rattle.driver.specs.Ended.{Tells, TellsLine};
 ghost use Rattle.store_engine.specs.Lines.{file_line};
 ghost use Rattle.store_engine.specs.Reading.{RanRead, disk_line, disk_status, input_words, read_telling};
 

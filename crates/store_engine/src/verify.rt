@@ -1,6 +1,6 @@
 //! `verify`: which files of a store are damaged.
 ghost use Rattle.std.specs.Prelude.{◌≡◌, IfErr, IfOk, OnOk};
-ghost use Rattle.set_engine.specs.Ended.{Tells};
+ghost use Rattle.driver.specs.Ended.{Tells};
 ghost use Rattle.store_engine.specs.Lines.{damage_lines};
 ghost use Rattle.store_engine.specs.Reading.{read_telling};
 ghost use Rattle.store_engine.specs.Verifying.{IsVerdictStatus, RanVerify};

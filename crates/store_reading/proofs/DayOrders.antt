@@ -18,10 +18,10 @@ use Rattle.archive_text.proofs.Orders.{octets_total}
 use Rattle.syslog_value.proofs.Octets.{below_itself as octets_irreflexive, below_trans as octets_transitive}
 use Rattle.archive_sets.specs.Conditions.{IsInRange}
 use Rattle.archive_sets.specs.declared.range.InRange.{InRange}
-use Rattle.archive_digest.specs.Periods.{IsPeriodOf}
-use Rattle.archive_digest.specs.declared.period.Period.TheVariants.{Day}
-use Rattle.archive_digest.proofs.Civils.{key, key_rises}
-use Rattle.archive_digest.proofs.Names.{one_name}
+use Rattle.archive_text.specs.Periods.{IsPeriodOf}
+use Rattle.archive_text.specs.declared.period.Period.TheVariants.{Day}
+use Rattle.archive_text.proofs.Civils.{key, key_rises}
+use Rattle.archive_text.proofs.Names.{one_name}
 use Rattle.store_reading.specs.Days.{HasInstant, IsDayBelow, IsDayText, IsFrom, IsOf, IsUpTo}
 use Rattle.store_reading.specs.Ranges.{MayMeet}
 use Rattle.syslog_value.proofs.DayNumbers.{month_most}

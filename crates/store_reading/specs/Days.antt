@@ -2,8 +2,8 @@
 use Rattle.std.specs.Prelude.{◌≡◌, ◌⊎◌, ℕ, ◌<◌, ℤ, ◌<ℤ◌, ◌≤ℤ◌, List, Option, None, Some, codes, length}
 use Rattle.syslog_value.specs.Order.{OctetsBelow}
 use Rattle.archive_text.specs.Entries.{Entry}
-use Rattle.archive_digest.specs.Periods.{IsIn, IsPeriodOf}
-use Rattle.archive_digest.specs.declared.period.Period.TheVariants.{Day}
+use Rattle.archive_text.specs.Periods.{IsIn, IsPeriodOf}
+use Rattle.archive_text.specs.declared.period.Period.TheVariants.{Day}
 
 -- the name of a day: `undated`, or the ten octets of a date
 abbrev pub IsDayText : List ℕ → Type 0

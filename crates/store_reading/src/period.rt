@@ -1,7 +1,7 @@
 //! The periods of segments.
 ghost use Rattle.std.specs.Prelude.{◌≡◌, ◌↔◌, IfNone, IfSome, IsTrue, codes};
-ghost use Rattle.archive_digest.specs.Periods.{IsPeriodOf};
-ghost use Rattle.archive_digest.specs.declared.period.Period.TheVariants.{Day as day_Period};
+ghost use Rattle.archive_text.specs.Periods.{IsPeriodOf};
+ghost use Rattle.archive_text.specs.declared.period.Period.TheVariants.{Day as day_Period};
 ghost use Rattle.store_reading.specs.Days.{IsDayText, IsPeriodText, MayHave};
 
 use crate::day::Day;

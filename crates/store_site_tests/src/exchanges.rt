@@ -207,8 +207,6 @@ fn a_site_may_take_no_records(rt: HostRuntime) -> Result<(), Fail> {
     };
     let push = Row {
         pushes: true,
-        status: 2,
-        line: b"the peer takes no records\n",
         own: OWN,
         ..both
     };
@@ -231,14 +229,17 @@ fn an_answer_that_cannot_be_so_is_told(rt: HostRuntime) -> Result<(), Fail> {
     for (answers, line) in [
         (
             b"syslogbox answer 1\nparts x\n".as_slice(),
-            b"the peer's answer cannot be so\n".as_slice(),
+            b"what the other site says cannot be so\n".as_slice(),
         ),
         (
             b"syslogbox answer 2\n",
-            b"the peer does not speak version 1 of the exchange\n",
+            b"the other site does not speak version 1 of the exchange: does its shell print something first?\n",
         ),
-        (b"syslogbox answer 1\n", b"the peer ended the exchange\n"),
-        (b"syslogbox answer 1\nfailed\n", b"the peer failed\n"),
+        (
+            b"syslogbox answer 1\n",
+            b"the other site ended the exchange\n",
+        ),
+        (b"syslogbox answer 1\nfailed\n", b"the other site failed\n"),
     ] {
         let mut run = ask(alloc, OWN, &exchange, answers)?;
         assert_eq!(rt; run.status, 2);

@@ -8,7 +8,7 @@ use Rattle.octet_devices.specs.Transfers.{WroteAll, WrotePart}
 use Rattle.disk.specs.States.{Files}
 use Rattle.driver.proofs.Known.{wrote_nothing}
 use Rattle.driver.specs.declared.status.TheConstants.{DONE, REFUSED}
-use Rattle.set_engine.specs.Ended.{Tells, TellsLine}
+use Rattle.driver.specs.Ended.{Tells, TellsLine}
 use Rattle.store_reading.specs.Causes.{IsCause}
 use Rattle.store_reading.specs.declared.fault.ReadFault.{ReadFault}
 use Rattle.store_reading.specs.declared.fault.ReadFault.TheVariants.{Folder, Open, Damaged, Read, Gone, TooManyDays}

@@ -9,7 +9,7 @@ use Rattle.octet_devices.specs.Device.{OutputState}
 use Rattle.octet_devices.specs.Transfers.{WroteAll, WrotePart}
 use Rattle.disk.specs.States.{Files}
 use Rattle.driver.specs.declared.status.TheConstants.{DONE, REFUSED}
-use Rattle.set_engine.specs.Ended.{EndsAs, TellsLine}
+use Rattle.driver.specs.Ended.{EndsAs, TellsLine}
 use Rattle.store_reading.specs.declared.fault.ReadFault.{ReadFault}
 use Rattle.store_reading.specs.declared.fault.ReadFault.TheVariants.{Write}
 use Rattle.store_upkeep.specs.Causes.{IsCounted}

@@ -1,6 +1,6 @@
 //! `stat`: what the files of a store have.
 ghost use Rattle.std.specs.Prelude.{◌≡◌, IfErr, OnOk};
-ghost use Rattle.set_engine.specs.Ended.{Tells};
+ghost use Rattle.driver.specs.Ended.{Tells};
 ghost use Rattle.store_engine.specs.Reading.{read_telling};
 ghost use Rattle.store_statistics.specs.Statistics.{RanStat};
 

@@ -7,11 +7,14 @@ mod collect;
 mod colors;
 mod columns;
 mod copies;
+mod copy_disk;
 mod descriptors;
 mod disk_files;
 mod entries;
 mod errors;
 mod flushing;
+mod follow;
+mod followed_folder;
 mod meter;
 mod metered_store;
 mod notes;
@@ -146,8 +149,8 @@ fn colored(rt: &HostRuntime, command: FrameCommand) -> FrameCommand {
     }
 }
 
-// Runs a request, and returns the exit status.
-fn run(
+// Runs a request on a store, or one on standard input and files. Returns the exit status.
+fn run_on_store(
     rt: &HostRuntime,
     request: Request<'_>,
     is_quiet: bool,
@@ -156,29 +159,6 @@ fn run(
 ) -> u8 {
     let alloc = rt.alloc();
     match request {
-        Request::Frames(
-            FrameRequest {
-                input_framing,
-                limit,
-                reading,
-                command,
-            },
-        ) => {
-            let frames = FrameRequest {
-                input_framing,
-                limit,
-                reading,
-                command: colored(rt, command),
-            };
-            on_files(rt, Request::Frames(frames), is_quiet)
-        }
-        Request::Collect { words } => {
-            if !can_be_written(rt) {
-                return report(diagnostics, b"write fault\n", FAULT);
-            }
-            collect::collect(rt, alloc, &words, output, diagnostics)
-        }
-        Request::Serve { words } => serve::serve(rt, &words),
         Request::Read {
             dir,
             conditions,
@@ -188,6 +168,11 @@ fn run(
             let options = stores::read_options(rt, conditions, words);
             stores::read(rt, alloc, dir, &options, output, &mut diagnostics)
         }
+        Request::Follow {
+            dir,
+            conditions,
+            words,
+        } => follow::follow(rt, alloc, dir, &conditions, words, output, diagnostics),
         Request::Verify { dir } => stores::verify(rt, alloc, dir, is_quiet),
         Request::Stat { dir } => stores::stat(rt, alloc, dir, output, diagnostics),
         Request::Compact { dir } => stores::compact(rt, alloc, dir, is_quiet),
@@ -196,24 +181,45 @@ fn run(
         Request::Reconcile { dir, words } => sites::reconcile(rt, alloc, dir, &words),
         Request::Answer { dir, words } => sites::answer(rt, alloc, dir, &words),
         Request::Backup { dir, to } => copies::backup(rt, alloc, dir, to, diagnostics),
+        request => on_files(rt, request, is_quiet),
+    }
+}
+
+// Runs a request, and returns the exit status.
+fn run(
+    rt: &HostRuntime,
+    request: Request<'_>,
+    is_quiet: bool,
+    output: &mut ToWrite<Stdout>,
+    diagnostics: &mut ToWrite<Stderr>,
+) -> u8 {
+    match request {
+        Request::Frames(frames) => {
+            let command = colored(rt, frames.command);
+            let frames = FrameRequest { command, ..frames };
+            on_files(rt, Request::Frames(frames), is_quiet)
+        }
         Request::SpillArchive {
             input_framing,
             reading,
             dir,
             memory_mib,
-        } => spill::archive(
-            rt,
-            alloc,
-            input_framing,
-            reading,
-            &spill::Room { dir, memory_mib },
-            is_quiet,
-        ),
+        } => {
+            let room = spill::Room { dir, memory_mib };
+            spill::archive(rt, rt.alloc(), input_framing, reading, &room, is_quiet)
+        }
         Request::Count { options } => {
             let options = columns::fitted(rt, options);
             on_files(rt, Request::Count { options }, is_quiet)
         }
-        request => on_files(rt, request, is_quiet),
+        Request::Collect { .. } if !can_be_written(rt) => {
+            report(diagnostics, b"write fault\n", FAULT)
+        }
+        Request::Collect { words } => {
+            collect::collect(rt, rt.alloc(), &words, output, diagnostics)
+        }
+        Request::Serve { words } => serve::serve(rt, &words),
+        request => run_on_store(rt, request, is_quiet, output, diagnostics),
     }
 }
 

@@ -1,5 +1,6 @@
 //! `serve`, over the sockets of the system and a store in a folder.
 
+use crate::copy_disk::is_unfinished;
 use crate::flushing::Flushing;
 use crate::notes::Notes;
 use crate::opening::{Fault, Keeper, open_refused, open_store, tell_note_error};
@@ -218,6 +219,12 @@ fn collect(
 
 // Opens what is asked for, and collects.
 fn run(teller: Teller<'_, '_>, words: &ServeWords<'_>) -> Result<u8, Fault> {
+    if is_unfinished(teller.rt, words.dir) {
+        return Err(teller.refuse(
+            words.dir,
+            "a copy that was not finished: remove it, and copy again",
+        ));
+    }
     let source = open_sockets(teller, words)?;
     let keeper = open_store(teller, words.dir)?;
     let file = RefCell::new(open_refused(teller, words.dir)?);

@@ -7,6 +7,8 @@ use disk::{Disk, DiskFault, FileName};
 use folder_disk::{FileError, FolderDisk, FolderFault, FolderLock, LockFault, LockFile};
 use libc::net::poll;
 use std::alloc::Global;
+use std::os::unix::fs::MetadataExt;
+use std::{fs, io};
 
 // For how long a process that adds to the store is waited for: so many times so many milliseconds.
 const TRIES: usize = 600;
@@ -24,14 +26,24 @@ pub enum NoTurn {
 
 /// The disk of a folder that several processes add to in turn. Its lock is taken before the first call, and given
 /// back once the names of the folder are on the disk; so nobody waits longer than one addition takes. After a
-/// fault it is kept.
+/// fault it is kept. A folder that was moved, or exchanged for another one, is not written to.
 #[derive(Drop)]
 pub struct SharedDisk<'d> {
     rt: &'d HostRuntime,
     dir: &'d str,
+    // which folder it is, as the system tells
+    folder: Option<(u64, u64)>,
     turn: Option<FolderDisk<HostRuntime>>,
     refused: Option<NoTurn>,
     has_failed: bool,
+}
+
+// The device and the number of the folder of a path, where the system tells.
+fn folder_at(rt: &HostRuntime, dir: &str) -> Option<(u64, u64)> {
+    match fs::metadata(rt, dir) {
+        Ok(found) => Some((found.dev(), found.ino())),
+        Err(_) => None,
+    }
 }
 
 // Takes the lock of those who add, for whom the others are waited for.
@@ -64,6 +76,7 @@ impl<'d> SharedDisk<'d> {
         SharedDisk {
             rt,
             dir,
+            folder: folder_at(rt, dir),
             turn: None,
             refused: None,
             has_failed: false,
@@ -87,6 +100,10 @@ impl<'d> SharedDisk<'d> {
     fn opened(&self) -> Result<FolderDisk<HostRuntime>, NoTurn> {
         let mut disk = FolderDisk::open(self.rt, self.dir).map_err(NoTurn::Folder)?;
         disk.hold(take_lock(self.rt, self.dir).map_err(NoTurn::Lock)?);
+        if folder_at(self.rt, self.dir) != self.folder {
+            let error = io::Error::other("it was moved or removed");
+            return Err(NoTurn::Folder(FolderFault::System(error)));
+        }
         Ok(disk)
     }
 
@@ -97,6 +114,11 @@ impl<'d> SharedDisk<'d> {
     {
         if self.turn.is_some() {
             return Ok(());
+        }
+        // who was refused once is not kept waiting again
+        if self.refused.is_some() {
+            self.has_failed = true;
+            return Err(DiskFault::Failed);
         }
         match self.opened() {
             Ok(disk) => {
@@ -205,12 +227,17 @@ impl<'d> Disk for SharedDisk<'d> {
         self.noted(answer)
     }
 
+    // a draft that is removed behind an addition is a turn of its own
     fn remove(&mut self, name: &FileName) -> Result<(), DiskFault> {
+        let is_alone = self.turn.is_none();
         self.begin()?;
         let answer = match &mut self.turn {
             Some(disk) => disk.remove(name),
             None => Err(DiskFault::Failed),
         };
+        if is_alone && matches!(answer, Ok(()) | Err(DiskFault::Missing)) {
+            self.turn = None;
+        }
         self.noted(answer)
     }
 

@@ -11,7 +11,11 @@ use itoa::Buffer;
 use octet_devices::{FromRead, Output, ToWrite};
 use site_engine::{Exchange, answer_read_only, answer_store, compare_store, reconcile_store};
 use std::alloc::{AllocError, Global};
+use std::io::IsTerminal;
 use store_engine::{SystemFolder, report_file_error, report_no_store};
+
+const NO_SITE: &[u8] =
+    b"standard input is a terminal, and not another site: connect reconcile and answer by a pipe\n";
 
 // How many octets a MiB has.
 const MIB: u64 = 1 << 20;
@@ -75,7 +79,7 @@ fn explain<N: Output>(
 // Reports that the other site was silent for too long, where it was. Returns the exit status.
 fn explain_silence<N: Output>(
     alloc: Global,
-    patience: &Patience,
+    patience: &Patience<'_>,
     seconds: u32,
     status: u8,
     diagnostics: &mut N,
@@ -97,7 +101,7 @@ fn octets_of(mib: u32) -> u64 {
 // Standard input and output as the pipe to the other site.
 fn pipe<'p>(
     rt: &HostRuntime,
-    patience: &'p Patience,
+    patience: &'p Patience<'p>,
 ) -> (FromRead<TimedInput<'p>>, ToWrite<TimedOutput<'p>>) {
     let input = TimedInput {
         stdin: rt.stdin(),
@@ -116,7 +120,7 @@ fn ask<N: Output>(
     alloc: Global,
     dir: &str,
     exchange: &Exchange,
-    patience: &Patience,
+    patience: &Patience<'_>,
     diagnostics: &mut N,
 ) -> u8 {
     let adds = exchange.pulls && !exchange.is_dry;
@@ -154,7 +158,10 @@ pub fn reconcile(rt: &HostRuntime, alloc: Global, dir: &str, words: &ReconcileWo
         is_dry: words.dry_run,
         room: octets_of(words.room_mib),
     };
-    let patience = Patience::new(words.timeout_seconds);
+    if rt.stdin().is_terminal() {
+        return report(&mut diagnostics, NO_SITE, FAULT);
+    }
+    let patience = Patience::new(rt, words.timeout_seconds);
     let status = ask(rt, alloc, dir, &exchange, &patience, &mut diagnostics);
     explain_silence(
         alloc,
@@ -171,7 +178,7 @@ fn answer_on<N: Output>(
     alloc: Global,
     dir: &str,
     words: &AnswerWords,
-    patience: &Patience,
+    patience: &Patience<'_>,
     diagnostics: &mut N,
 ) -> u8 {
     let mut folder = match open_store(rt, alloc, dir, !words.read_only, diagnostics) {
@@ -201,7 +208,10 @@ fn answer_on<N: Output>(
 /// where the other site ended the exchange, else that of a fault.
 pub fn answer(rt: &HostRuntime, alloc: Global, dir: &str, words: &AnswerWords) -> u8 {
     let mut diagnostics = ToWrite::new(rt.stderr());
-    let patience = Patience::new(words.timeout_seconds);
+    if rt.stdin().is_terminal() {
+        return report(&mut diagnostics, NO_SITE, FAULT);
+    }
+    let patience = Patience::new(rt, words.timeout_seconds);
     let status = answer_on(rt, alloc, dir, words, &patience, &mut diagnostics);
     explain_silence(
         alloc,

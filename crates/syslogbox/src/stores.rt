@@ -2,6 +2,7 @@
 
 use crate::ago::days_ago;
 use crate::colors;
+use crate::copies::report_unfinished;
 use crate::meter::{ClearedWriter, Meter, SharedMeter};
 use crate::metered_store::{MeteredStore, store_octets};
 use archive_sets::Conditions;
@@ -75,6 +76,7 @@ pub fn read<W: Output, N: Output>(
         Err(error) => return report_no_store(alloc, dir, &error, diagnostics),
     };
     let status = read_records(alloc, &mut folder, options, output, diagnostics);
+    let status = report_unfinished(rt, alloc, dir, status, diagnostics);
     explained(alloc, dir, &folder, status, diagnostics)
 }
 
@@ -112,6 +114,7 @@ fn verify_metered(rt: &HostRuntime, alloc: Global, dir: &str, meter: SharedMeter
     let mut folder = MeteredStore { store, meter };
     let status = verify_store(alloc, &mut folder, &mut output, &mut diagnostics);
     meter.clear();
+    let status = report_unfinished(rt, alloc, dir, status, &mut output);
     explained(alloc, dir, &folder.store, status, &mut diagnostics)
 }
 

@@ -1,8 +1,8 @@
-//! `read`, and when records are colored.
+//! `read` and `follow`, and when records are colored.
 
 use crate::words::{asked, refuses_all};
 use archive_sets::{InRange, Times};
-use command_line::{ColorWhen, FrameCommand, ReadForm, ReadWords, Request};
+use command_line::{ColorWhen, FollowWords, FrameCommand, ReadForm, ReadWords, Request};
 use std::test::Fail;
 use syslog_value::Instant;
 
@@ -143,6 +143,57 @@ fn read_writes_the_last_records_in_a_form(rt: HostRuntime) -> Result<(), Fail> {
             &["read", "d", "--as=xml"],
             &["read", "d", "--color=red"],
             &["read", "d", "--quiet"],
+        ],
+    )
+}
+
+// what `follow` begins with and ends with, where it has a folder `d` and this many tests
+fn follows(rt: &HostRuntime, words: &[&str], tests: usize) -> Option<FollowWords> {
+    match &asked(rt, words) {
+        Ok(
+            Request::Follow {
+                dir,
+                conditions,
+                words,
+            },
+        ) if *dir == "d" && conditions.any.len() == tests => Some(*words),
+        _ => None,
+    }
+}
+
+#[test]
+fn follow_takes_a_folder_and_conditions(rt: HostRuntime) -> Result<(), Fail> {
+    let rows: [(&[&str], usize, bool, bool); 4] = [
+        (&["follow", "d"], 0, false, false),
+        (&["follow", "d", "--from-start"], 0, true, false),
+        (&["follow", "--until-eof", "d", "--host=a"], 1, false, true),
+        (
+            &[
+                "follow",
+                "d",
+                "--until-eof",
+                "--from-start",
+                "--severity=err",
+            ],
+            1,
+            true,
+            true,
+        ),
+    ];
+    for (words, tests, from_start, until_eof) in rows {
+        let expected = FollowWords {
+            from_start,
+            until_eof,
+        };
+        assert_eq!(rt; follows(&rt, words, tests), Some(expected), "{words:?}");
+    }
+    refuses_all(
+        &rt,
+        &[
+            &["follow"],
+            &["follow", "d", "e"],
+            &["follow", "d", "--last=1"],
+            &["follow", "d", "--host="],
         ],
     )
 }

@@ -13,8 +13,8 @@ fn tells(rt: &HostRuntime, words: &[&str], text: &str) -> bool {
 
 #[test]
 fn the_version_is_a_text(rt: HostRuntime) {
-    assert!(rt; tells(&rt, &["--version"], "syslogbox 0.11.0\n"));
-    assert!(rt; tells(&rt, &["-V"], "syslogbox 0.11.0\n"));
+    assert!(rt; tells(&rt, &["--version"], "syslogbox 0.12.0\n"));
+    assert!(rt; tells(&rt, &["-V"], "syslogbox 0.12.0\n"));
 }
 
 // whether a text that holds this is told, since the words ask for it
@@ -29,8 +29,8 @@ fn helps(rt: &HostRuntime, words: &[&str], part: &str) -> bool {
 fn a_command_has_help_and_the_version(rt: HostRuntime) {
     assert!(rt; helps(&rt, &["check", "--help"], "--summary"));
     assert!(rt; helps(&rt, &["check", "--summary", "-h"], "--summary"));
-    assert!(rt; helps(&rt, &["serve", "--version"], "0.11.0\n"));
-    assert!(rt; helps(&rt, &["root", "-V"], "0.11.0\n"));
+    assert!(rt; helps(&rt, &["serve", "--version"], "0.12.0\n"));
+    assert!(rt; helps(&rt, &["root", "-V"], "0.12.0\n"));
     let rows: [&[&str]; 5] = [
         &["--help"],
         &["-h"],

@@ -1,7 +1,7 @@
 use Rattle.std.proofs.Common.{List, ℕ, ◌∷◌, ap, subst, sym, ◌∙◌}
 use Rattle.std.proofs.lemmas.Bool.{false≢true}
-use Rattle.archive_digest.specs.Periods.{IsIn}
-use Rattle.archive_digest.specs.declared.period.Period.TheVariants.{Day as day_Period}
+use Rattle.archive_text.specs.Periods.{IsIn}
+use Rattle.archive_text.specs.declared.period.Period.TheVariants.{Day as day_Period}
 use Rattle.archive_text.specs.Entries.{Entry}
 use Rattle.archive_text.specs.EntryViews.{entry_of}
 use Rattle.archive_pages.specs.Paged.{entries_from}

@@ -1,7 +1,7 @@
 use Rattle.std.proofs.Common.{◌≡◌, ◌++◌, ◌∷◌, List, length}
 use Rattle.std.specs.List.{AllByRecursion}
-use Rattle.archive_digest.specs.Periods.{IsIn}
-use Rattle.archive_digest.specs.declared.period.Period.TheVariants.{Day}
+use Rattle.archive_text.specs.Periods.{IsIn}
+use Rattle.archive_text.specs.declared.period.Period.TheVariants.{Day}
 use Rattle.archive_pages.specs.Paged.{at_most_all, entries_from}
 use Rattle.archive_text.specs.EntryViews.{entry_of}
 use Rattle.archive_text.specs.Entries.{Entry}

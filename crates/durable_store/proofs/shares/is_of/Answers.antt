@@ -1,8 +1,8 @@
 use Rattle.std.proofs.Common.{subst, sym, ◌∙◌}
 use Rattle.std.specs.Prelude.{ℤ, Option, take}
 use Rattle.std.proofs.lemmas.Slice.Eq.{bytes_eq-Decides}
-use Rattle.archive_digest.specs.Periods.{IsPeriodOf}
-use Rattle.archive_digest.specs.declared.period.Period.TheVariants.{Day}
+use Rattle.archive_text.specs.Periods.{IsPeriodOf}
+use Rattle.archive_text.specs.declared.period.Period.TheVariants.{Day}
 use Rattle.durable_store.proofs.Runs.{day_is_front}
 use Rattle.durable_store.proofs.shares.is_of.Goals as goal
 

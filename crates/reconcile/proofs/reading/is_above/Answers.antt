@@ -1,4 +1,4 @@
-use Rattle.std.proofs.Common.{◌-◌, length, refl, subst, sym}
+use Rattle.std.proofs.Common.{refl, subst, sym}
 use Rattle.std.proofs.lemmas.Bool.{false≢true}
 use Rattle.archive_text.specs.Entries.{Entry, IsBelow}
 use Rattle.archive_text.specs.EntryViews.{entry_of}

@@ -9,8 +9,8 @@ returns-in-Err g c =
     grows_wider (IsInSome c.as_slice.result.now) (IsOfRange c.args.exchange.now.range) _ _ c.reconcile_ranges.ensures
     (λ x e m. (c.in_ok-ranges.ensures.places x e).0 (subst (λ l. IsInSome l x) c.as_slice.ensures.value m))
 
-pub returns-in_err-finish-2 : goal.returns-in_err-finish-2
-returns-in_err-finish-2 g c =
+pub returns-in_err-finish : goal.returns-in_err-finish
+returns-in_err-finish g c =
     grows_wider (IsInSome c.as_slice.result.now) (IsOfRange c.args.exchange.now.range) _ _ c.reconcile_ranges.ensures
     (λ x e m. (c.in_ok-ranges.ensures.places x e).0 (subst (λ l. IsInSome l x) c.as_slice.ensures.value m))
 

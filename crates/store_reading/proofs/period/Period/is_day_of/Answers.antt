@@ -1,7 +1,7 @@
 use Rattle.std.proofs.Common.{List, ℕ, subst, sym, ◌∙◌}
-use Rattle.archive_digest.specs.Periods.{IsPeriodOf}
-use Rattle.archive_digest.specs.declared.period.Period.TheVariants.{Day}
-use Rattle.archive_digest.proofs.Names.{one_name}
+use Rattle.archive_text.specs.Periods.{IsPeriodOf}
+use Rattle.archive_text.specs.declared.period.Period.TheVariants.{Day}
+use Rattle.archive_text.proofs.Names.{one_name}
 use Rattle.store_reading.proofs.period.Period.is_day_of.Goals as goal
 
 pub returns : goal.returns
