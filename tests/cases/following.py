@@ -119,9 +119,17 @@ def step_by_step(program, results, path):
     results.check("at the end of input: status 0", start.eof() == (0, b""))
     results.check("the last batch, which is not open, is not written", start.octets == written_at_end, repr(start.octets)[-300:])
     results.check("nothing of the folder is changed", (store.stat().st_mtime_ns, sorted(os.listdir(store))) == (before, after))
-    now.process.stdout.close()
-    status, notes = now.process.wait(20), now.process.stderr.read()
-    results.check("its reader has gone: status 2", status == 2, f"{status} {notes}")
+    now.kill()
+    gone = subprocess.Popen([program.path, "follow", str(store)], stdout=subprocess.PIPE, stderr=subprocess.PIPE)
+    gone.stdout.close()
+    try:
+        status = gone.wait(20)
+    except subprocess.TimeoutExpired:
+        gone.kill()
+        status = "not ended"
+    with gone.stderr:
+        notes = gone.stderr.read()
+    results.check("its reader has gone: status 2", (status, notes) == (2, b"write fault\n"), f"{status} {notes}")
 
 
 def under_conditions(program, results, path):
