@@ -78,7 +78,7 @@ complete -c syslogbox -n "__fish_seen_subcommand_from prove confirm" -F
 complete -c syslogbox -n "__fish_seen_subcommand_from read follow verify stat compact expire reconcile answer backup" -a '(__fish_complete_directories)'
 complete -c syslogbox -n "__fish_seen_subcommand_from read" -l last -x -d 'Only the last so many of these records'
 complete -c syslogbox -n "__fish_seen_subcommand_from read" -l as -x -a 'archive lines json show' -d 'What is written'
-complete -c syslogbox -n "__fish_seen_subcommand_from follow" -l from-start -d 'Begin with the records that the store's journals hold'
+complete -c syslogbox -n "__fish_seen_subcommand_from follow" -l from-start -d 'Begin with the records that the store\'s journals hold'
 complete -c syslogbox -n "__fish_seen_subcommand_from follow serve" -l until-eof -d 'End when standard input ends'
 complete -c syslogbox -n "__fish_seen_subcommand_from add serve" -a '(__fish_complete_directories)'
 complete -c syslogbox -n "__fish_seen_subcommand_from expire" -l before -x -d 'Remove the records before TIME, which is rounded down to the hour'

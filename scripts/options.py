@@ -165,7 +165,7 @@ def bash(commands):
 # ---- zsh
 
 def zsh_told(text):
-    return re.sub(r"([\[\]:])", r"\\\1", text)
+    return re.sub(r"([\[\]:])", r"\\\1", text).replace("'", "'\\''")
 
 
 def zsh_action(option):
@@ -205,6 +205,10 @@ def zsh(commands):
 
 # ---- fish
 
+def fish_told(text):
+    return text.replace("'", "\\'")
+
+
 def fish_value(option):
     if not option.has_value:
         return ""
@@ -228,7 +232,7 @@ def fish(commands):
     for option, names in of.items():
         front = f'complete -c syslogbox -n "__fish_seen_subcommand_from {" ".join(names)}"'
         if not option.is_placed:
-            lines.append(f"{front} -l {option.name}{fish_value(option)} -d '{option.short}'")
+            lines.append(f"{front} -l {option.name}{fish_value(option)} -d '{fish_told(option.short)}'")
         elif option.completed != "text":
             line = front + fish_value(option).replace(" -r", "").replace(" -x", "")
             lines += [line] if line not in lines else []
