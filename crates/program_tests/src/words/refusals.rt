@@ -302,8 +302,8 @@ const UNKNOWN_OPTIONS: [(&[&str], &str); 3] = [
     ),
     (
         &["verify", "-d"],
-        "error: unexpected argument '-d' found\n\n  tip: to pass '-d' as a value, use '-- -d'\n\n\
-        Usage: syslogbox verify [OPTIONS] <DIR>\n\nFor more information, try '--help'.\n",
+        "error: unexpected argument '-d' found\n\nUsage: syslogbox verify [OPTIONS] <DIR>\n\nFor \
+        more information, try '--help'.\n",
     ),
 ];
 
