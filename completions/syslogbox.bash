@@ -16,7 +16,7 @@ _syslogbox_options() {
         archive)
             echo "--framing --trim --legacy --zone --dialect --spill --memory --quiet --help"
             ;;
-        merge | migrate | union | common | minus | diff | root | prove | verify | compact | add)
+        merge | migrate | union | common | minus | diff | root | prove | compact | add)
             echo "--quiet --help"
             ;;
         select)
@@ -24,7 +24,7 @@ _syslogbox_options() {
             echo "--message --host-like --app-like --not-host --not-app --not-message --quiet --help"
             ;;
         digest)
-            echo "--by --quiet --help"
+            echo "--by --root --quiet --help"
             ;;
         count)
             echo "--by --top --json --bars --quiet --help"
@@ -40,8 +40,14 @@ _syslogbox_options() {
             echo "--from --to --undated --only-undated --severity --facility --host --app --proc --msgid --id"
             echo "--message --host-like --app-like --not-host --not-app --not-message --from-start --until-eof --help"
             ;;
+        verify)
+            echo "--against --quiet --help"
+            ;;
         expire)
             echo "--before --keep --undated --dry-run --quiet --help"
+            ;;
+        seal)
+            echo "--before --quiet --help"
             ;;
         reconcile)
             echo "--from --to --undated --pull --push --dry-run --room --timeout --quiet --help"
@@ -57,7 +63,7 @@ _syslogbox_options() {
             ;;
         serve)
             echo "--udp --counted --lf --unix --inherited --allow --connections --per-peer --idle --commit"
-            echo "--checkpoint --until-eof --trim --legacy --zone --dialect --help"
+            echo "--checkpoint --metrics --until-eof --trim --legacy --zone --dialect --help"
             ;;
     esac
 }
@@ -77,12 +83,12 @@ _syslogbox_value() {
         "read --app-like" | "read --not-host" | "read --not-app" | "read --not-message" | "read --last" | \
         "follow --from" | "follow --to" | "follow --host" | "follow --app" | "follow --proc" | "follow --msgid" | \
         "follow --id" | "follow --message" | "follow --host-like" | "follow --app-like" | "follow --not-host" | \
-        "follow --not-app" | "follow --not-message" | "expire --before" | "expire --keep" | "reconcile --from" | \
-        "reconcile --to" | "reconcile --room" | "reconcile --timeout" | "answer --room" | "answer --timeout" | \
-        "send --host" | "send --app" | "send --proc" | "send --msgid" | "send --micros" | "collect --legacy" | \
-        "collect --zone" | "serve --udp" | "serve --counted" | "serve --lf" | "serve --allow" | \
-        "serve --connections" | "serve --per-peer" | "serve --idle" | "serve --commit" | "serve --checkpoint" | \
-        "serve --legacy" | "serve --zone")
+        "follow --not-app" | "follow --not-message" | "verify --against" | "expire --before" | "expire --keep" | \
+        "seal --before" | "reconcile --from" | "reconcile --to" | "reconcile --room" | "reconcile --timeout" | \
+        "answer --room" | "answer --timeout" | "send --host" | "send --app" | "send --proc" | "send --msgid" | \
+        "send --micros" | "collect --legacy" | "collect --zone" | "serve --udp" | "serve --counted" | "serve --lf" | \
+        "serve --allow" | "serve --connections" | "serve --per-peer" | "serve --idle" | "serve --commit" | \
+        "serve --checkpoint" | "serve --metrics" | "serve --legacy" | "serve --zone")
             echo "text"
             ;;
         "show --dialect" | "check --dialect" | "convert --dialect" | "archive --dialect" | "collect --dialect" | \
@@ -126,8 +132,8 @@ _syslogbox_place() {
         "merge "* | "migrate "* | "union "* | "common "* | "minus "* | "diff "* | "prove "* | "confirm 3")
             echo "file"
             ;;
-        "read "* | "follow "* | "verify "* | "stat "* | "compact "* | "add "* | "expire "* | "reconcile "* | \
-        "answer "* | "backup "* | "serve "*)
+        "read "* | "follow "* | "verify "* | "stat "* | "compact "* | "add "* | "expire "* | "seal "* | \
+        "reconcile "* | "answer "* | "backup "* | "serve "*)
             echo "folder"
             ;;
         "collect 1")
@@ -138,7 +144,7 @@ _syslogbox_place() {
 
 _syslogbox() {
     local command=${COMP_WORDS[1]} word=$2 previous=$3 kind="" action="" words=""
-    local commands="show check convert archive merge migrate union common minus diff select digest count root prove confirm read follow verify stat compact add expire reconcile answer backup send collect serve help"
+    local commands="show check convert archive merge migrate union common minus diff select digest count root prove confirm read follow verify stat compact add expire seal reconcile answer backup send collect serve help"
     if [ "$COMP_CWORD" -eq 1 ]; then
         words="$commands --help --version"
     elif [ "$command" = help ]; then

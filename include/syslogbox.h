@@ -31,7 +31,7 @@ extern "C" {
  * The version of this header: 10,000 times its first number, 100 times the second, and the third. The name
  * SYSLOGBOX_VERSION is a field of records, below.
  */
-#define SYSLOGBOX_LIBRARY_VERSION 1200
+#define SYSLOGBOX_LIBRARY_VERSION 1300
 
 /*
  * The version of the library that is called, in the same form. A shared library may be newer than the header that the

@@ -75,7 +75,7 @@ tarball() {
     sh scripts/install.sh "$dist/static" "$tree" /usr/local
     # shellcheck disable=SC2016  # pkg-config itself puts a folder there
     library "$tree" '${pcfiledir}/../..' lib
-    files "$tree" README.md CHANGELOG.md SECURITY.md docs/*.md docs/pictures/*.svg contrib/*.conf examples/*
+    files "$tree" README.md CHANGELOG.md SECURITY.md docs/*.md docs/pictures/*.svg contrib/*.conf contrib/*.yml contrib/*.json examples/*
     recipes "$tree"
     bindings "$tree"
     if command -v python3 > /dev/null; then
@@ -167,7 +167,7 @@ debian() {
     sh scripts/install.sh "$dist/dynamic" "$root/usr" /usr vendor-completions
     gzip -9n "$root"/usr/share/man/man[1-8]/*
     documents "$root/usr/share/doc/$package"
-    install -m 644 contrib/*.conf "$root/usr/share/doc/$package/examples"
+    install -m 644 contrib/*.conf contrib/*.yml contrib/*.json "$root/usr/share/doc/$package/examples"
     rm "$dist/dynamic"
     pack "$(libc_of "$root/usr/bin/syslogbox")" admin << END
 Description: proved reader and writer of syslog records

@@ -3,4 +3,4 @@
 set -eu
 unset CDPATH
 cd "$(dirname "$0")/.."
-sed -n 's/^const VERSION: &str = "\(.*\)";$/\1/p' crates/command_line/src/line.rt
+sed -n 's/^pub const VERSION: &str = "\(.*\)";$/\1/p' crates/command_line/src/line.rt

@@ -16,6 +16,7 @@ usage: tests/run.py PROGRAM INJECTION TRIAL [PART..]
        tests/run.py load PROGRAM [--tools FOLDER] [--records N] [--rounds N]
        tests/run.py cluster PROGRAM [--folder FOLDER] [--records N] [--engines ENGINE..]
        tests/run.py serve-clients PROGRAM [--tools FOLDER] [--records N] [--kills N] [--seed N] [--parts PART..]
+       tests/run.py prometheus PROGRAM [--records N]
        tests/run.py serve-soak PROGRAM [--seconds N] [--rate N] [--connections N] [--folder FOLDER]
        tests/run.py serve-load PROGRAM [--tools FOLDER] [--records N] [--rounds N] [--folder FOLDER]
 
@@ -39,8 +40,8 @@ from lib.side_by_side import Parts, cores, python
 
 # the parts that run side by side, those that take longest first; each is a module of cases/ with a function of its name
 SIDE_BY_SIDE = ["stores", "reconciling", "lying_sites", "libraries", "algebra", "mutated", "serving", "serving_short", "legacy", "bindings", "commands", "verdicts", "archives",
-                "reading", "following", "terminal", "unsafe_folders", "damaged_journals", "damaged_segments", "many_days", "full_pipes", "notes_pace", "sending",
-                "collect", "backing_up", "adding", "expiring", "statistics", "spilling", "counting", "proofs", "scarce_memory", "documents", "sockets", "descriptors", "costs", "auditing"]
+                "reading", "following", "terminal", "unsafe_folders", "damaged_journals", "damaged_segments", "many_days", "full_pipes", "notes_pace", "watching", "sending",
+                "collect", "backing_up", "adding", "expiring", "ledgers", "statistics", "spilling", "counting", "proofs", "scarce_memory", "documents", "sockets", "descriptors", "costs", "auditing"]
 # these run after the others, one after the other: `soak` takes all cores itself, the others measure
 AT_THE_END = ["soak", "colliding_ids", "noisy_senders"]
 MODULES = {"soak": "hostile.soak"}
@@ -49,7 +50,7 @@ ALONE = {"soak": "hostile.soak", "algebra": "hostile.archives", "stores": "hosti
          "lying-sites": "hostile.lying_sites", "kills-of-sites": "hostile.kills_of_sites", "three-sites": "hostile.three_sites",
          "bindings": "bindings.lines",
          "mutants": "mutants.run", "noisy": "cases.noisy_senders", "senders": "peers.senders", "load": "peers.load", "cluster": "peers.cluster",
-         "serve-clients": "peers.serve_clients", "serve-soak": "peers.serve_soak", "serve-load": "peers.serve_load"}
+         "serve-clients": "peers.serve_clients", "prometheus": "peers.prometheus", "serve-soak": "peers.serve_soak", "serve-load": "peers.serve_load"}
 
 
 def try_part(name, words, results):

@@ -27,4 +27,4 @@ __all__ = ["ArchiveError", "Dialect", "ENTRY_MAX", "Element", "FRAME_MAX", "Fiel
            "Refusal", "Root", "Source", "StreamError", "SyslogError", "Writable", "build", "canonical", "check",
            "check_all", "check_stream", "common", "digest", "framed", "frames", "is_record", "legacy",
            "library_version", "minus", "records", "root", "select", "trimmed", "union", "view"]
-__version__ = "0.12.0"
+__version__ = "0.13.0"

@@ -106,8 +106,8 @@ def of_many(number):
 
 
 def few_syncs(runs):
-    """A commit syncs its journal twice. A checkpoint syncs twice for each of its segments, and a few times more for the
-    next journal; so does a start."""
+    """A commit syncs its journal twice. A checkpoint syncs twice for each of its segments, once for its line of the ledger, and a
+    few times more for the next journal; so does a start."""
     sent = [of_many(number) for number in range(5_000)]
     store, log = runs.store(), runs.path / "log"
     with runs.until_eof(*any_port("counted"), *SOON, "--checkpoint", 1, store=store,
@@ -119,11 +119,13 @@ def few_syncs(runs):
     commits = sum(call.kind == "write" and call.octets == b"\1" and is_journal(call.name) for call in calls)
     periods, checkpoints = periods_of(files_of(store))
     of_journals = sum(call.kind == "sync" and is_journal(call.name) for call in calls)
-    others = sum(call.kind != "write" for call in calls) - of_journals
+    of_ledger = sum(call.kind == "sync" and call.name == b"ledger" for call in calls)
+    others = sum(call.kind != "write" for call in calls) - of_journals - of_ledger
     runs.results.check("syncs: segments", checkpoints > 0 and len(periods) >= 16 * checkpoints, f"{len(periods)} {checkpoints}")
     most = 2 * commits + 4 * (checkpoints + 1)
     runs.results.check("syncs of journals", of_journals <= most, f"{of_journals} of {commits} commits, {checkpoints} checkpoints")
     most = 2 * SEGMENTS * checkpoints + 4 * (checkpoints + 1)
+    runs.results.check("syncs of the ledger", of_ledger <= SEGMENTS * checkpoints, f"{of_ledger} of {checkpoints} checkpoints")
     runs.results.check("syncs of segments and of the folder", others <= most, f"{others} of {checkpoints} checkpoints")
 
 

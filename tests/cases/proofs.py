@@ -1,6 +1,9 @@
 """Proofs that a record is in an archive, or that it is not: an independent maker of them (RFC 9162), examples/confirm.py, and the
 commands root, prove and confirm, where the program has them."""
+import functools
 import hashlib
+import importlib.util
+import re
 import subprocess
 import sys
 from random import Random
@@ -22,6 +25,9 @@ ROOTS = ["e3b0c44298fc1c149afbf4c8996fb92427ae41e4649b934ca495991b7852b855",
          "ddb89be403809e325750d3d263cd78929c2942b7942a34b77e122c9594a74c8c",
          "5dc9da79a70659a9ad559cb701ded9a2ab9d823aad2f4960cfe370eff4604328"]
 EXAMPLE = str(ROOT / "examples/confirm.py")
+TREES = 300  # the most leaves of trees all of whose paths are tried
+CHANGED, AT_ONCE = 100_000, 1_000  # proofs that are changed, and how many of them `confirm` reads in one run
+PERIODS = {"month": 7, "day": 10, "hour": 13}  # how many octets of a time name its period
 
 
 def split(entries):
@@ -94,6 +100,115 @@ def every_octet(random, results, program, head, record, text, false):
     results.same(f"the octets of a proof of {len(text)}", shown, [])
 
 
+def tree_of(leaves):
+    """The hash of each subtree of a list of leaves, by the places of its first leaf and of that behind its last one."""
+    @functools.lru_cache(None)
+    def of(first, end):
+        if end - first < 2:
+            return hashlib.sha256(b"".join(b"\0" + leaf for leaf in leaves[first:end])).digest()
+        at = first + (1 << (end - first - 1).bit_length() - 1)
+        return hashlib.sha256(b"\1" + of(first, at) + of(at, end)).digest()
+    return of
+
+
+def path_in(of, first, end, index):
+    """The hashes beside the way from a leaf to the root."""
+    path = []
+    while end - first > 1:
+        at = first + (1 << (end - first - 1).bit_length() - 1)
+        beside, first, end = ((at, end), first, at) if index < at else ((first, at), at, end)
+        path.append(of(*beside))
+    return path[::-1]
+
+
+def every_tree(program, results):
+    """The path of each leaf of each tree that has at most 300 leaves."""
+    leaves = sorted((b"<13>1 - h a - - - %d" % n for n in range(TREES)), key=order)
+    wrong = []
+    for count in range(1, TREES + 1):
+        of = tree_of(leaves)
+        paths = (path_in(of, 0, count, index) for index in range(count))
+        text = b"".join(b"present %d %d\n%b\n" % (index, len(path), b"".join(one.hex().encode() + b"\n" for one in path))
+                        for index, path in enumerate(paths))
+        name, head = program.folder.file("records", counted(leaves[:count])), [str(count), of(0, count).hex()]
+        archive = archive_text(leaves[:count])
+        if program.run(["root"], archive)[1] != " ".join(head).encode() + b"\n":
+            wrong.append(f"root {count}")
+        if program.run(["prove", name], archive) != (0, text, b""):
+            wrong.append(f"prove {count}")
+        if program.run(["confirm", *head, name], text) != (0, b"present\n" * count, b""):
+            wrong.append(f"confirm {count}")
+    results.same(f"each path of each tree of at most {TREES} leaves", wrong, [])
+
+
+def second_reader():
+    """The function of examples/confirm.py that says what a proof shows."""
+    spec = importlib.util.spec_from_file_location("second_reader", EXAMPLE)
+    module = importlib.util.module_from_spec(spec)
+    spec.loader.exec_module(module)
+    return module.shown
+
+
+def changed_in_place(random, text, others):
+    """A proof that is changed and is one by its grammar: a digit of a hash or of an index, a hash left out, put in or
+    exchanged for another, an octet of a neighbour, or the proof of another record."""
+    kind = random.randrange(6)
+    hashes = list(re.finditer(rb"^[0-9a-f]{64}$", text, re.M))
+    if kind < 2 and hashes:
+        at = random.choice(hashes).start() + random.randrange(64)
+        return text[:at] + random.choice(b"0123456789abcdef".replace(text[at:at + 1], b"").decode()).encode() + text[at + 1:]
+    if kind == 2 and len(hashes) > 1:
+        one, other = sorted(random.sample(hashes, 2), key=re.Match.start)
+        return text[:one.start()] + other[0] + text[one.end():other.start()] + one[0] + text[other.end():]
+    heads = list(re.finditer(rb"^(present |)(\d+) (\d+)$", text, re.M))
+    if kind == 3 and heads:
+        head = random.choice(heads)
+        index = max(0, int(head[2]) + random.choice([-2, -1, 1, 2, 1 << random.randrange(64)]))
+        return text[:head.start(2)] + b"%d" % index + text[head.end(2):]
+    neighbours = list(re.finditer(rb"^(before|behind) (\d+) ", text, re.M))
+    if kind == 4 and neighbours:
+        one = random.choice(neighbours)
+        at = one.end() + random.randrange(int(one[2]))
+        return text[:at] + bytes([text[at] ^ 1 << random.randrange(5)]) + text[at + 1:]
+    return random.choice(others)
+
+
+def many_changed(random, program, results):
+    """Of many proofs that were changed, each is read as examples/confirm.py reads it, and none shows what is false."""
+    shown, different, false = second_reader(), [], []
+    for run in range(CHANGED // AT_ONCE):
+        entries = sorted(random.sample(POOL, random.randrange(1, len(POOL))), key=order)
+        root = tree_hash(entries)
+        made = {record: proof_of(entries, record) for record in POOL}
+        asked = random.choices(POOL, k=AT_ONCE)
+        texts = [changed_in_place(random, made[record], list(made.values())) for record in asked]
+        name = program.folder.file("records", counted(asked))
+        seen = program.run(["confirm", str(len(entries)), root.hex(), name], b"".join(texts))[1].decode().split("\n")[:-1]
+        right = [shown(len(entries), root, record, text, 0)[0] for record, text in zip(asked, texts)]
+        different += [f"{run} {n}" for n, (one, other) in enumerate(zip(seen, right)) if one != other]
+        different += [f"{run}: {len(seen)} lines"] * (len(seen) != len(right))
+        false += [f"{run} {n}" for n, (record, one) in enumerate(zip(asked, seen)) if one == ("absent" if record in entries else "present")]
+    results.same(f"{CHANGED} changed proofs, read twice", different, [])
+    results.same(f"{CHANGED} changed proofs that show what is false", false, [])
+
+
+def rooted_digests(random, program, results):
+    """The root at the end of each line of `digest --root` is that of the records of its period."""
+    for size in [0, 1, 7, len(POOL)]:
+        entries = sorted(random.sample(POOL, size), key=order)
+        for period, octets in PERIODS.items():
+            kept = {}
+            for entry in entries:
+                time = entry.split(b" ")[1]
+                kept.setdefault(b"undated" if time == b"-" else time[:octets], []).append(entry)
+            plain = program.run(["digest", "--by", period], archive_text(entries))
+            lines = plain[1].split(b"\n")[:-1]
+            roots = [tree_hash(entries if line.split(b" ")[0] == b"total" else kept[line.split(b" ")[0]]) for line in lines]
+            right = b"".join(b"%b %b\n" % (line, root.hex().encode()) for line, root in zip(lines, roots))
+            seen = program.run(["digest", "--by", period, "--root"], archive_text(entries))
+            results.same(f"digest --root by {period} of {size} entries", seen, (plain[0], right, plain[2]))
+
+
 def refused(program, results):
     """What `prove` and `confirm` say of records that are none, and of archives that are none."""
     root = ["1", ROOTS[1]]
@@ -154,3 +269,6 @@ def proofs(program, results):
                 every_octet(random, results, program, head, record, made[record], false)
     if there:
         refused(program, results)
+        every_tree(program, results)
+        many_changed(random, program, results)
+        rooted_digests(random, program, results)

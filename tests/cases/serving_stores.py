@@ -147,7 +147,7 @@ def damage(runs, store, text, segments):
     (store / name).write_bytes(whole)
     other = re.sub(r"[0-9a-f]{64}", "0" * 64, name)
     os.rename(store / name, store / other)
-    runs.results.same("another name: verify", runs.verify(store), (1, f"{other} digest\n".encode(), b""))
+    runs.results.same("another name: verify", runs.verify(store), (1, f"{other} digest\n{name} missing\n".encode(), b""))
     os.rename(store / other, store / name)
     runs.results.same("as it was: verify", runs.verify(store), (0, b"", b""))
     runs.results.same("as it was: read", runs.program.run(["read", str(store)]), (0, text, b""))

@@ -256,7 +256,7 @@ def on_store(program, words, wants_output=True):
 def stores(program, results):
     """`verify`, `compact` and `expire` tell how far they are, and leave a store as they do with --quiet."""
     folder = store_of(program, "added")
-    octets = sum(files_of(folder).values())
+    octets = sum(size for name, size in files_of(folder).items() if name != "ledger")
     for command, *words in ["verify"], ["expire", "--dry-run", *EXPIRED], ["compact"], ["expire", *EXPIRED]:
         name = " ".join([command, *words[:1]])
         one, other = copied(folder, "one"), copied(folder, "other")

@@ -16,6 +16,7 @@ from pathlib import Path
 
 from hostile.compaction import KINDS, many_segments
 from hostile.stores import room, without
+from lib.ledger import ledger_of
 from lib.power_cut import Cut, Disk, calls_of
 from lib.reference import archive_text, framed, place
 from lib.server import SOON, Server, any_port
@@ -48,17 +49,18 @@ class Additions:
         self.program, self.results, self.path, self.files = program, results, Path(path), files
         self.sent, self.text = in_order(sent), archive_text(sent)
         self.keeper, self.store, self.log = Keeper(program), self.path / "store", self.path / "log"
+        self.ledger = ledger_of(program, files)
         self.held = held(files)
 
     def run(self, **chosen):
         """The answer of a run on a new folder, whose calls are written down."""
         shutil.rmtree(self.store, ignore_errors=True)
         self.log.unlink(missing_ok=True)
-        put_folder(self.store, self.files)
+        put_folder(self.store, {**self.files, b"ledger": self.ledger})
         return self.program.run(["add", str(self.store)], self.text, self.keeper.tracing(self.store, self.log, **chosen))
 
     def calls(self):
-        return [call for call in calls_of(self.log.read_bytes()) if call.name != b"lock.add"]
+        return [call for call in calls_of(self.log.read_bytes()) if call.name not in (b"lock.add", b"lock.ledger")]
 
     def has_prefix(self, found, least=0):
         """All that was held, and a prefix of the archive that has so many entries at least; nothing else."""
@@ -97,7 +99,7 @@ class Additions:
                 name = f"addition: {kind} {n} of {counts[kind]} fails"
                 answer = self.run(fail=f"{kind} {n} {errno.EIO}")
                 told = told_added(answer[2])
-                right = told is not None or answer[2].startswith(b"lock.add: ")
+                right = told is not None or answer[2].startswith((b"lock.add: ", b"ledger: ", b"lock.ledger: "))
                 self.results.check(name, answer[0] == 2 and not answer[1] and right, str(answer))
                 self.goes_on(name, told)
         for n in range(1, sum(counts.values()) + 1):
@@ -114,7 +116,7 @@ class Additions:
 
     def losses(self, calls, seed, each, whole):
         """How many of the disks that cuts at each of these calls may leave hold anything else."""
-        disk, cut, wrong = Disk(self.files), Cut(seed, FORGED), 0
+        disk, cut, wrong = Disk({**self.files, b"ledger": self.ledger}), Cut(seed, FORGED), 0
         for n, call in enumerate(calls):
             disk.do(call)
             least = len(self.sent) if whole and n + 1 == len(calls) else 0

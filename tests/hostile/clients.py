@@ -24,6 +24,7 @@ import time
 from collections import namedtuple
 from pathlib import Path
 
+from lib.ledger import but_unlisted
 from lib.program import Folder, Program
 from lib.reference import counted_frames, framed, timestamp
 from lib.results import Results
@@ -369,7 +370,7 @@ class Seen:
         self.status, self.lines = server.end()
         text = server.read()[1]
         self.records, self.found = counted_frames(text)[0], set(RECORD.findall(text))
-        self.verified = server.program.run(["verify", str(server.store)])
+        self.verified = but_unlisted(server.program.run(["verify", str(server.store)]))
         self.segments = sum(name.endswith(".archive") for name in os.listdir(server.store))
         self.lost = {key for key in good.waiting if key not in self.found}
         self.undelivered = {key for key in self.lost if good.kind_of(key) == "udp"}

@@ -16,6 +16,7 @@ from pathlib import Path
 from random import Random
 
 from hostile.stores import room, without
+from lib.ledger import ledger_of
 from lib.power_cut import Cut, Disk, calls_of
 from lib.reference import archive_text, framed
 from lib.server import SOON, Server, any_port, until
@@ -49,17 +50,18 @@ class Compactions:
     def __init__(self, program, results, path, files):
         self.program, self.results, self.path, self.files = program, results, Path(path), files
         self.keeper, self.store, self.log = Keeper(program), self.path / "store", self.path / "log"
+        self.ledger = ledger_of(program, files)
         self.held = held(files)
 
     def run(self, **chosen):
         """The answer of a run on a new folder, whose calls are written down."""
         shutil.rmtree(self.store, ignore_errors=True)
         self.log.unlink(missing_ok=True)
-        put_folder(self.store, self.files)
+        put_folder(self.store, {**self.files, b"ledger": self.ledger})
         return self.program.run(["compact", str(self.store)], b"", self.keeper.tracing(self.store, self.log, **chosen))
 
     def calls(self):
-        return [call for call in calls_of(self.log.read_bytes()) if call.name != b"lock.compact"]
+        return [call for call in calls_of(self.log.read_bytes()) if call.name not in (b"lock.compact", b"lock.ledger")]
 
     def is_same(self, name):
         """The folder holds the same set."""
@@ -104,7 +106,7 @@ class Compactions:
 
     def losses(self, calls, seed, each):
         """How many of the disks that cuts at each of these calls may leave hold another set."""
-        disk, cut, wrong = Disk(self.files), Cut(seed, FORGED), 0
+        disk, cut, wrong = Disk({**self.files, b"ledger": self.ledger}), Cut(seed, FORGED), 0
         for call in calls:
             disk.do(call)
             wrong += sum(held(cut.left(disk)) != self.held for _ in range(each))
@@ -156,12 +158,12 @@ def few_descriptors():
 def has_few_descriptors(program, results, path, files):
     """Too few descriptors for the segments of a day: which file, and why. `verify` has one file open at once; if there is no
     descriptor for that, it tells the same."""
-    store = put_folder(Path(path) / "descriptors", files)
+    store = put_folder(Path(path) / "descriptors", {**files, b"ledger": ledger_of(program, files)})
 
     def told(name, answer):
         last = answer[2].rstrip(b"\n").rpartition(b"\n")[2]
         file = last.removesuffix(b": Too many open files (os error 24)")
-        right = answer[:2] == (2, b"") and file != last and file.rpartition(b"/")[2] in {*files, b"descriptors"}
+        right = answer[:2] == (2, b"") and file != last and file.rpartition(b"/")[2] in {*files, b"descriptors", b"ledger"}
         results.check(f"too few descriptors: {name}", right, str(answer))
 
     for command in "compact", "read":

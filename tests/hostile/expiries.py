@@ -16,6 +16,7 @@ from pathlib import Path
 
 from hostile.compaction import KINDS
 from hostile.stores import room, without
+from lib.ledger import ledger_of
 from lib.power_cut import Cut, Disk, calls_of
 from lib.reference import archive_read, archive_text, framed
 from lib.server import SOON, Server, any_port, until
@@ -80,6 +81,7 @@ class Expiries:
     def __init__(self, program, results, path, files):
         self.program, self.results, self.path, self.files = program, results, Path(path), files
         self.keeper, self.store, self.log = Keeper(program), self.path / "store", self.path / "log"
+        self.ledger = ledger_of(program, files)
         self.journals = held({name: octets for name, octets in files.items() if JOURNAL.fullmatch(name)})
 
     def words(self, undated):
@@ -89,11 +91,11 @@ class Expiries:
         """The answer of a run on a new folder, whose calls are written down."""
         shutil.rmtree(self.store, ignore_errors=True)
         self.log.unlink(missing_ok=True)
-        put_folder(self.store, self.files)
+        put_folder(self.store, {**self.files, b"ledger": self.ledger})
         return self.program.run(self.words(undated), b"", self.keeper.tracing(self.store, self.log, **chosen))
 
     def calls(self):
-        return [call for call in calls_of(self.log.read_bytes()) if call.name != b"lock.compact"]
+        return [call for call in calls_of(self.log.read_bytes()) if call.name not in (b"lock.compact", b"lock.ledger")]
 
     def is_between(self, found, undated=False):
         """All that is not expired is held, and nothing that was not."""
@@ -154,7 +156,7 @@ class Expiries:
 
     def losses(self, calls, seed, each):
         """How many of the disks that cuts at each of these calls may leave hold anything else."""
-        disk, cut, wrong = Disk(self.files), Cut(seed, FORGED), 0
+        disk, cut, wrong = Disk({**self.files, b"ledger": self.ledger}), Cut(seed, FORGED), 0
         for call in calls:
             disk.do(call)
             wrong += sum(not self.is_between(held(cut.left(disk))) for _ in range(each))

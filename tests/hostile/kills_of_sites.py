@@ -11,6 +11,7 @@ import threading
 import time
 from random import Random
 
+from lib.ledger import but_unlisted
 from lib.program import Program
 from lib.reference import archive_text
 from lib.results import Results
@@ -57,7 +58,7 @@ def one_kill(program, results, stores, random, name):
     for folder, before in zip(folders, sets):
         held = records_of(folder)
         results.check(f"{name}: what is held", held is not None and before <= held <= union, str(outcome)[:300])
-        seen = program.run(["verify", str(folder)])
+        seen = but_unlisted(program.run(["verify", str(folder)]))
         results.check(f"{name}: verify", seen == (0, b"", b""), str(seen))
     outcome = exchange(*begins)
     results.check(f"{name}: the next one", outcome[:2] == (0, 0), str(outcome)[:300])

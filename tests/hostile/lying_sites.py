@@ -14,6 +14,7 @@ import tempfile
 import time
 from random import Random
 
+from lib.ledger import but_unlisted
 from lib.program import Program, run
 from lib.reference import FRAME_MAX, archive_text, counted, framed
 from lib.results import Results
@@ -60,7 +61,7 @@ class Told:
         held = records_of(self.store)
         right = held is not None and held >= self.before and all(is_handed(one, handed) for one in held - self.before)
         self.results.check(f"{name}: what is held", right, "a damaged file" if held is None else str(sorted(held ^ self.before)[:3])[:600])
-        seen = self.program.run(["verify", str(self.store)])
+        seen = but_unlisted(self.program.run(["verify", str(self.store)]))
         self.results.check(f"{name}: verify", seen == (0, b"", b""), str(seen))
         Stores.drop(self.store)
         put_folder(self.store, self.files)

@@ -13,11 +13,12 @@ import termios
 import time
 from pathlib import Path
 
+from lib.ledger import but_unlisted
 from lib.loopback import HERE, NEVER
 from lib.reference import archive_text, counted_frames
 
-LISTENERS = ("--udp", "--counted", "--lf", "--unix", "--inherited")
-LISTENING = re.compile(rb"listening (udp|counted|lf|unix) (.*)")
+LISTENERS = ("--udp", "--counted", "--lf", "--unix", "--inherited", "--metrics")
+LISTENING = re.compile(rb"listening (udp|counted|lf|unix|metrics) (.*)")
 ADDRESS = re.compile(r"\[?([0-9a-f.:]+?)\]?:(\d+)")
 AWAY = struct.pack("ii", 1, 0)  # with SO_LINGER a close sends a reset
 WINDOW = 20  # datagrams that may wait in a socket
@@ -317,7 +318,7 @@ class Runs:
         return self.program.run(["archive", *words], octets)
 
     def verify(self, store):
-        return self.program.run(["verify", str(store)])
+        return but_unlisted(self.program.run(["verify", str(store)]))
 
     def holds(self, name, server, *sent):
         """A store comes to hold just these records."""

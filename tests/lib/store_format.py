@@ -169,5 +169,6 @@ def damage(name, octets):
 
 
 def files_of(path):
-    """The files of a folder, octets by names."""
-    return {one.name.encode(): one.read_bytes() for one in Path(path).iterdir() if one.is_file()}
+    """The files of a folder, octets by names, without those of the ledger (lib/ledger.py), which holds no records."""
+    return {one.name.encode(): one.read_bytes() for one in Path(path).iterdir()
+            if one.is_file() and one.name not in ("ledger", "lock.ledger")}

@@ -12,9 +12,9 @@ from installing import in_c, units, with_units
 from results import ROOT, clone, lacking, name_sources, run
 
 LINK = re.compile(r"\]\(([^)#:\s]+)(?:#[^)\s]*)?\)")
-OF_THE_TARBALL = ["README.md", "CHANGELOG.md", "docs/*.md", "docs/pictures/*", "contrib/*.conf", "examples/*", "include/*.h", "python/*.py", "python/*.c",
+OF_THE_TARBALL = ["README.md", "CHANGELOG.md", "docs/*.md", "docs/pictures/*", "contrib/*.conf", "contrib/*.yml", "contrib/*.json", "examples/*", "include/*.h", "python/*.py", "python/*.c",
                   "python/*.toml", "python/syslogbox/*", "go/*", "cluster/*.*", "cluster/slurm/*"]
-OF_THE_PACKAGE = {"README.md": "", "docs/*.md": "", "docs/pictures/*": "pictures", "contrib/*.conf": "examples",
+OF_THE_PACKAGE = {"README.md": "", "docs/*.md": "", "docs/pictures/*": "pictures", "contrib/*.conf": "examples", "contrib/*.yml": "examples", "contrib/*.json": "examples",
                   "cluster/*.*": "examples/cluster", "cluster/slurm/*": "examples/cluster/slurm"}
 OF_THE_LIBRARY = {"docs/LIBRARY.md": "", "examples/*": "examples", "python/*.*": "examples/python",
                   "python/syslogbox/*": "examples/python/syslogbox", "go/*": "examples/go"}

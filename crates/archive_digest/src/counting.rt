@@ -17,11 +17,11 @@ impl Digesting {
         reader: &mut R,
         writer: &mut W,
     ) -> Result<(), SelectFault>
-        requires { IsFresh self.old }
+        requires { IsFresh self.old.tally.roots self.old }
         ensures outcome { MatchResult result
-            (λ _. ReadWhole period self.new (R.state reader.old) (R.state reader.new)
+            (λ _. ReadWhole self.old.tally.roots period self.new (R.state reader.old) (R.state reader.new)
             (W.state writer.old).taken (W.state writer.new).taken)
-            (λ fault. Halted period fault self.new.held (R.state reader.old) (R.state reader.new)
+            (λ fault. Halted self.old.tally.roots period fault self.new.held (R.state reader.old) (R.state reader.new)
             (W.state writer.old).taken (W.state writer.new).taken) }
         ensures reader { ReadFailures result (R.state reader.old).failures
             (R.state reader.new).failures }

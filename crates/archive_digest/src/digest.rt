@@ -5,12 +5,16 @@ ghost use Rattle.octet_devices.specs.Held.{Puts};
 ghost use Rattle.archive_text.specs.Entries.{Entry};
 ghost use Rattle.archive_sets.specs.Failures.{ReadFailures, TellsFailures, WriteFailures};
 ghost use Rattle.archive_digest.specs.Digested.{Digested, Stopped};
+ghost use Rattle.archive_digest.specs.DigestedWith.{DigestedWith, StoppedWith};
 ghost use Rattle.archive_digest.specs.Digesting.{FinishFails, Finishes, IsFresh};
 ghost use Rattle.archive_digest.specs.Putting.{TellsWrites, ending};
 ghost use Rattle.archive_digest.specs.Sums.{IsTallyOf};
+ghost use Rattle.archive_digest.specs.declared.roots.Roots.{Roots};
+ghost use Rattle.archive_digest.specs.declared.roots.Roots.TheVariants.{With};
 
 use crate::digesting::Digesting;
 use crate::line::put_line;
+use crate::roots::Roots;
 use archive_sets::SelectFault;
 use archive_text::Period;
 use octet_devices::{Input, Output, WriteFault};
@@ -21,9 +25,9 @@ impl Digesting {
     fn put_ending<W: Output>(&mut self, writer: &mut W) -> Result<(), WriteFault>
         ensures tally { self.new.tally ≡ self.old.tally }
         ensures told { TellsWrites (W.state writer.old) (W.state writer.new) result }
-        ensures puts { (xs latest : List Entry) → ((xs ≡ []) ↔ (latest ≡ []))
-            → IsTallyOf self.old.tally xs latest → Puts (W.state writer.old) (W.state writer.new)
-            self.old.held self.new.held (ending self.old.name xs latest) result }
+        ensures puts { (roots : Roots) (xs latest : List Entry) → ((xs ≡ []) ↔ (latest ≡ []))
+            → IsTallyOf roots self.old.tally xs latest → Puts (W.state writer.old) (W.state writer.new)
+            self.old.held self.new.held (ending roots self.old.name xs latest) result }
     {
         if self.tally.is_empty() {
             return put_line(&mut self.held, writer, b"total", &self.tally.total);
@@ -64,11 +68,11 @@ impl Digesting {
         reader: &mut R,
         writer: &mut W,
     ) -> Result<u64, SelectFault>
-        requires { IsFresh self.old }
+        requires { IsFresh self.old.tally.roots self.old }
         ensures outcome { MatchResult result
-            (λ n. Digested period (R.state reader.old) (R.state reader.new)
+            (λ n. DigestedWith self.old.tally.roots period (R.state reader.old) (R.state reader.new)
             (W.state writer.old).taken (W.state writer.new).taken n)
-            (λ fault. Stopped period fault (R.state reader.old) (R.state reader.new)
+            (λ fault. StoppedWith self.old.tally.roots period fault (R.state reader.old) (R.state reader.new)
             (W.state writer.old).taken (W.state writer.new).taken) }
         ensures told { TellsFailures result (R.state reader.old) (R.state reader.new)
             (W.state writer.old) (W.state writer.new) }
@@ -120,7 +124,45 @@ pub fn digest_stream<R: Input, W: Output>(
     ensures memory { IsErrOf result SelectFault.Memory → (reader.new ≡ reader.old)
         × (writer.new ≡ writer.old) }
 {
-    let Ok(mut digesting) = Digesting::new(alloc) else {
+    let Ok(mut digesting) = Digesting::new(alloc, Roots::Without) else {
+        return Err(SelectFault::Memory);
+    };
+    digesting.run(period, reader, writer)
+}
+
+/// Writes the digest of [`digest_stream`], where each line has one word more at its end, behind a
+/// space: the root of its records, which is their Merkle tree hash (RFC 9162, section 2.1.1) in
+/// lower-case hexadecimal. The leaves are the canonical records, without their counts, in the
+/// archive's order. So the root of a period is that of its own archive, and the root of `total` that
+/// of the whole archive.
+///
+/// Besides the room of [`digest_stream`], which is reserved first, the call has room for two trees of
+/// 64 hashes.
+///
+/// # Errors
+/// Those of [`digest_stream`].
+pub fn digest_stream_with_roots<R: Input, W: Output>(
+    alloc: Global,
+    period: Period,
+    reader: &mut R,
+    writer: &mut W,
+) -> Result<u64, SelectFault>
+    // the whole archive, and its digest; or what a fault says of what was read and written
+    ensures outcome { MatchResult result
+        (λ n. DigestedWith With period (R.state reader.old) (R.state reader.new)
+        (W.state writer.old).taken (W.state writer.new).taken n)
+        (λ fault. StoppedWith With period fault (R.state reader.old) (R.state reader.new)
+        (W.state writer.old).taken (W.state writer.new).taken) }
+
+    // a device's fault just where that device failed
+    ensures told { TellsFailures result (R.state reader.old) (R.state reader.new)
+        (W.state writer.old) (W.state writer.new) }
+
+    // out of memory only before anything is read or written
+    ensures memory { IsErrOf result SelectFault.Memory → (reader.new ≡ reader.old)
+        × (writer.new ≡ writer.old) }
+{
+    let Ok(mut digesting) = Digesting::new(alloc, Roots::With) else {
         return Err(SelectFault::Memory);
     };
     digesting.run(period, reader, writer)

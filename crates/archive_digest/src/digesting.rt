@@ -7,9 +7,11 @@ ghost use Rattle.archive_sets.specs.Failures.{ReadFailures, WriteFailures};
 ghost use Rattle.archive_sets.specs.Selecting.{IsHalt};
 ghost use Rattle.archive_digest.specs.Digesting.{CountFails, Counts, IsFresh, KeepsOutput};
 ghost use Rattle.archive_digest.specs.Sums.{IsTallyOf};
+ghost use Rattle.archive_digest.specs.declared.roots.Roots.{Roots};
 
 use crate::line::put_line;
 use crate::name::PeriodName;
+use crate::roots::Roots;
 use crate::tally::Tally;
 use archive_sets::SelectFault;
 use archive_streams::{ArchiveEntries, EntriesFault, InputFault};
@@ -33,7 +35,7 @@ pub struct Digesting {
 // Whether no further period begins with an entry of the period `next` behind these, of which the
 // latest period has this name.
 fn goes_on(tally: &Tally, name: &PeriodName, next: &PeriodName) -> bool
-    ensures { (xs latest : List Entry) → IsTallyOf tally.now xs latest
+    ensures { (roots : Roots) (xs latest : List Entry) → IsTallyOf roots tally.now xs latest
         → (IsTrue result ↔ ((xs ≡ []) ⊎ (next.now ≡ name.now))) }
 {
     tally.is_empty() || next.is(name)
@@ -41,14 +43,14 @@ fn goes_on(tally: &Tally, name: &PeriodName, next: &PeriodName) -> bool
 
 impl Digesting {
     /// A digest before the first entry. It fails only when out of memory.
-    pub fn new(alloc: Global) -> Result<Digesting, AllocError>
-        ensures { IfOk result IsFresh }
+    pub fn new(alloc: Global, roots: Roots) -> Result<Digesting, AllocError>
+        ensures { IfOk result (IsFresh roots) }
     {
         Ok(Digesting {
             entries: ArchiveEntries::new(alloc)?,
             held: BufferedOutput::new(),
             name: PeriodName::none(),
-            tally: Tally::new(),
+            tally: Tally::new(roots),
         })
     }
 

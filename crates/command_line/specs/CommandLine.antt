@@ -102,7 +102,9 @@ with_time_rules a =
 
 -- the command that sums up an archive, period by period
 abbrev pub digest_app : App
-digest_app = with_quiet_rule (with_rule (command_app (codes "digest")) (default_rule (codes "by") (codes "day")))
+digest_app =
+    with_quiet_rule (with_rule (with_rule (command_app (codes "digest")) (default_rule (codes "by") (codes "day")))
+    (flag_rule (codes "root")))
 
 -- the command that counts the records of an archive
 abbrev pub count_app : App
@@ -220,11 +222,11 @@ with_connection_rules a =
     with_rule (with_rule (with_rule (with_rule a (list_rule (codes "allow"))) (default_rule (codes "connections") (codes "1024")))
     (option_rule (codes "per-peer"))) (option_rule (codes "idle"))
 
--- the options of `serve` that are numbers
+-- the options of `serve` on commits and checkpoints, and on who watches
 abbrev pub with_limit_rules : App → App
 with_limit_rules a =
-    with_rule (with_rule (with_connection_rules a) (default_rule (codes "commit") (codes "1000")))
-    (default_rule (codes "checkpoint") (codes "64"))
+    with_rule (with_rule (with_rule (with_connection_rules a) (default_rule (codes "commit") (codes "1000")))
+    (default_rule (codes "checkpoint") (codes "64"))) (option_rule (codes "metrics"))
 
 -- the command that collects into a store
 abbrev pub serve_app : App
@@ -280,11 +282,15 @@ expire_app =
     with_quiet_rule (with_rule (with_rule (with_rule (with_rule (folder_app (codes "expire")) (option_rule (codes "before")))
     (option_rule (codes "keep"))) (flag_rule (codes "undated"))) (flag_rule (codes "dry-run")))
 
+-- the command that seals the days of a store that are over
+abbrev pub seal_app : App
+seal_app = with_quiet_rule (with_rule (folder_app (codes "seal")) (option_rule (codes "before")))
+
 -- the commands that change a store
 abbrev pub with_changers : App → App
 with_changers a =
-    with_subcommand (with_subcommand (with_subcommand a (long_app (codes "compact")).top)
-    (long_app (codes "add")).top) expire_app.top
+    with_subcommand (with_subcommand (with_subcommand (with_subcommand a (long_app (codes "compact")).top)
+    (long_app (codes "add")).top) expire_app.top) seal_app.top
 
 -- the options of a command that talks to another site: how much it takes, and how long it waits
 abbrev pub with_site_rules : App → App
@@ -319,11 +325,15 @@ with_site_commands a =
 abbrev pub with_readers : App → App
 with_readers a = with_subcommand (with_subcommand a read_app.top) follow_app.top
 
+-- the command that reads a whole store
+abbrev pub verify_app : App
+verify_app = with_quiet_rule (with_rule (folder_app (codes "verify")) (option_rule (codes "against")))
+
 -- the commands on stores
 abbrev pub with_store_commands : App → App
 with_store_commands a =
     with_site_commands (with_changers (with_subcommand (with_subcommand (with_readers a)
-    (long_app (codes "verify")).top) (folder_app (codes "stat")).top))
+    verify_app.top) (folder_app (codes "stat")).top))
 
 -- the commands that receive records from sockets
 abbrev pub with_receivers : App → App

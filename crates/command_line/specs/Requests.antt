@@ -1,5 +1,5 @@
 -- What the words of a command line ask for.
-use Rattle.std.specs.Prelude.{◌≡◌, ◌≢◌, ◌&&◌, ◌==◌, ⊤, ℕ, Bool, false, true, not, List, [], ◌∷◌, Some, None, Option, Result, Ok, Err, codes, map, if◌then◌else◌}
+use Rattle.std.specs.Prelude.{◌≡◌, ◌≢◌, ◌&&◌, ◌==◌, ⊤, ℕ, ℤ, Bool, false, true, not, List, [], ◌∷◌, Some, None, Option, Result, Ok, Err, codes, map, if◌then◌else◌}
 use Rattle.std.specs.Prelude.{option_and_then, option_map}
 use Rattle.std.specs.List.{list_all, list_any}
 use Rattle.std.specs.Str.{bytes_eq}
@@ -26,6 +26,7 @@ use Rattle.command_line.specs.Sites.{answer_in, reconcile_in}
 use Rattle.condition_words.specs.Conditions.{ConditionsAsked, conditions_asked, conditions_in}
 use Rattle.option_values.specs.Numbers.{number_in, size_in}
 use Rattle.option_values.specs.Readings.{reading_in}
+use Rattle.option_values.specs.Times.{asked_time}
 use Rattle.option_values.specs.Values.{is_given_in, optional}
 use Rattle.archive_text.specs.declared.period.Period.{Period}
 use Rattle.server_words.specs.Serves.{ServeAsked, serve_asked, serve_in}
@@ -69,7 +70,8 @@ pub data Asked : Type 0 where
   Minus : Text → Text → Asked
   Diff : Text → Text → Asked
   Select : ConditionsAsked → Asked
-  Digest : Period → Asked
+  -- and whether with the roots
+  Digest : Period → Bool → Asked
   -- by these keys, so many lines at most, in this form
   Count : List CountKey → Option ℕ → CountForm → Asked
   Root : Asked
@@ -81,11 +83,14 @@ pub data Asked : Type 0 where
   -- folders
   Read : Text → ConditionsAsked → ReadWords → Asked
   Follow : Text → ConditionsAsked → FollowWords → Asked
-  Verify : Text → Asked
+  -- and the line that the ledger has to have
+  Verify : Text → Option Text → Asked
   Stat : Text → Asked
   Compact : Text → Asked
   Add : Text → Asked
   Expire : Text → ExpireWords → Asked
+  -- the days that ended by then
+  Seal : Text → ℤ → Asked
   Reconcile : Text → ReconcileWords → Asked
   Answer : Text → AnswerWords → Asked
   -- and the folder of the copy
@@ -118,7 +123,7 @@ asked_by (request.Frames r) = frames_asked r
 asked_by (request.SpillArchive input_framing way dir memory) = SpillArchive way input_framing dir.now memory
 asked_by (request.Files r) = files_asked r
 asked_by (request.Select conditions) = Select (conditions_asked conditions)
-asked_by (request.Digest period) = Digest period
+asked_by (request.Digest period roots) = Digest period roots
 asked_by (request.Count options) = Count options.keys.items options.top options.form
 asked_by request.Root = Root
 asked_by (request.Prove records) = Prove records.now
@@ -127,11 +132,12 @@ asked_by (request.Send options) = Send (texts_of options)
 asked_by (request.Collect words) = Collect words
 asked_by (request.Read dir conditions words) = Read dir.now (conditions_asked conditions) words
 asked_by (request.Follow dir conditions words) = Follow dir.now (conditions_asked conditions) words
-asked_by (request.Verify dir) = Verify dir.now
+asked_by (request.Verify dir against) = Verify dir.now (option_map (λ s. s.now) against)
 asked_by (request.Stat dir) = Stat dir.now
 asked_by (request.Compact dir) = Compact dir.now
 asked_by (request.Add dir) = Add dir.now
 asked_by (request.Expire dir words) = Expire dir.now words
+asked_by (request.Seal dir before) = Seal dir.now before
 asked_by (request.Reconcile dir words) = Reconcile dir.now words
 asked_by (request.Answer dir words) = Answer dir.now words
 asked_by (request.Backup dir to) = Backup dir.now to.now
@@ -241,7 +247,8 @@ read_select rows = option_map (λ conditions. Select conditions) (conditions_in 
 -- `digest` with the value of its option
 abbrev pub read_digest : List Row → Option Asked
 read_digest rows =
-    option_map (λ period. Digest period) (option_and_then period_of (first_of (codes "by") rows))
+    option_map (λ period. Digest period (is_given_in (codes "root") rows))
+    (option_and_then period_of (first_of (codes "by") rows))
 
 -- `count` by these keys, with the values of its other options
 abbrev pub count_of : List CountKey → List Row → Option Asked
@@ -332,9 +339,9 @@ read_follow rows =
     option_and_then (λ dir. option_map (λ conditions. Follow dir conditions (follow_words_in rows)) (conditions_in rows))
     (first_of (codes "DIR") rows)
 
--- `verify` with its folder
+-- `verify` with its folder, and the line that the ledger has to have
 abbrev pub read_verify : List Row → Option Asked
-read_verify rows = option_map (λ dir. Verify dir) (first_of (codes "DIR") rows)
+read_verify rows = option_map (λ dir. Verify dir (first_of (codes "against") rows)) (first_of (codes "DIR") rows)
 
 -- `stat` with its folder
 abbrev pub read_stat : List Row → Option Asked
@@ -352,6 +359,12 @@ read_add rows = option_map (λ dir. Add dir) (first_of (codes "DIR") rows)
 abbrev pub read_expire : List Row → Option Asked
 read_expire rows =
     option_and_then (λ dir. option_map (λ words. Expire dir words) (expire_in rows)) (first_of (codes "DIR") rows)
+
+-- `seal` with its folder, and when the days that are sealed ended
+abbrev pub read_seal : List Row → Option Asked
+read_seal rows =
+    option_and_then (λ dir. option_map (λ before. Seal dir before)
+    (option_and_then asked_time (first_of (codes "before") rows))) (first_of (codes "DIR") rows)
 
 -- `reconcile` with the values of its options
 abbrev pub read_reconcile : List Row → Option Asked
@@ -384,7 +397,8 @@ read_store name rows =
     else (if bytes_eq name (codes "stat") then read_stat rows
     else (if bytes_eq name (codes "compact") then read_compact rows
     else (if bytes_eq name (codes "add") then read_add rows
-    else (if bytes_eq name (codes "expire") then read_expire rows else read_sites name rows))))
+    else (if bytes_eq name (codes "expire") then read_expire rows
+    else (if bytes_eq name (codes "seal") then read_seal rows else read_sites name rows)))))
 
 -- `serve` with its values
 abbrev pub read_serve : List Row → Option Asked

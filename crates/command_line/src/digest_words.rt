@@ -9,8 +9,8 @@ ghost use Rattle.command_line.specs.Requests.{asked_by, read_digest};
 use crate::request::Request;
 use archive_digest::Period;
 use clap::ArgMatches;
-use option_values::options::PERIOD;
-use option_values::{Refusal, needed};
+use option_values::options::{PERIOD, ROOTS};
+use option_values::{Refusal, is_given, needed};
 
 // The period with this name; None for any other text.
 fn period(name: &str) -> Option<Period>
@@ -30,7 +30,10 @@ pub fn read_digest_words<'a>(matches: &ArgMatches<'a>) -> Result<Request<'a>, Re
 {
     let name = needed(matches, &PERIOD)?;
     match period(name) {
-        Some(period) => Ok(Request::Digest { period }),
+        Some(period) => Ok(Request::Digest {
+            period,
+            has_roots: is_given(matches, ROOTS.name),
+        }),
         None => Err(PERIOD.refuses(PERIOD.kind, name)),
     }
 }

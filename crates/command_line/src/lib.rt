@@ -21,6 +21,7 @@ mod tips;
 mod words;
 
 pub use collecting::collect_words;
+pub use line::VERSION;
 pub use request::{
     AnswerWords, ColorWhen, ExpireBound, ExpireWords, FileRequest, FollowWords, FrameCommand,
     FrameRequest, Invocation, ReadForm, ReadWords, ReconcileWay, ReconcileWords, Request,

@@ -12,8 +12,8 @@ use option_values::commands::COMMANDS;
 use option_values::{CommandRow, FILES_MAX, Form, OptionRow};
 use std::alloc::{AllocError, Global};
 
-// What `--version` tells beside the program's name.
-const VERSION: &str = "0.12.0";
+/// The version of the program, which `--version` tells.
+pub const VERSION: &str = "0.13.0";
 
 // An option that takes a value.
 fn single<'a>(alloc: Global, name: &'a str) -> Arg<'a>

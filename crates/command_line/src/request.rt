@@ -206,6 +206,8 @@ pub enum Request<'a> {
     /// `digest`: one line for each period of an archive.
     Digest {
         period: Period,
+        /// Whether each line ends with the Merkle tree hash of its records.
+        has_roots: bool,
     },
     /// `count`: how many records of an archive have each value of some fields or times.
     Count {
@@ -245,6 +247,8 @@ pub enum Request<'a> {
     /// `verify`: what is damaged in a store, one line each.
     Verify {
         dir: &'a str,
+        /// A line that the ledger has to have.
+        against: Option<&'a str>,
     },
     /// `stat`: what the files of a store have, one line each.
     Stat {
@@ -262,6 +266,11 @@ pub enum Request<'a> {
     Expire {
         dir: &'a str,
         words: ExpireWords,
+    },
+    /// `seal`: each day of a store that ended by a time is one segment then, whose root the ledger has.
+    Seal {
+        dir: &'a str,
+        before: Instant,
     },
     /// `reconcile`: a store and that of another site, over standard input and output, come to hold the
     /// same records.

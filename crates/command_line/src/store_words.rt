@@ -1,24 +1,27 @@
-//! The words of the commands on stores: `verify`, `stat`, `compact`, `add` and `expire`, or those on two.
+//! The words of the commands on stores: `verify`, `stat`, `compact`, `add`, `expire` and `seal`, or those on two.
 
 ghost use Rattle.std.specs.Prelude.{◌≡◌, option_map};
 ghost use Rattle.std.specs.Result.{result_ok};
 ghost use Rattle.clap.specs.Words.{found_of, rows_of};
-ghost use Rattle.command_line.specs.Requests.{asked_by, read_add, read_compact, read_stat, read_store};
-ghost use Rattle.command_line.specs.Requests.{read_verify};
+ghost use Rattle.command_line.specs.Requests.{asked_by, read_add, read_compact, read_seal, read_stat};
+ghost use Rattle.command_line.specs.Requests.{read_store, read_verify};
 
 use crate::expire_words::read_expire_words;
 use crate::request::Request;
 use crate::site_words::read_site_words;
 use clap::ArgMatches;
-use option_values::options::{DIR, NEW_DIR};
-use option_values::{Refusal, needed};
+use option_values::options::{AGAINST, DIR, NEW_DIR, SEAL_BEFORE};
+use option_values::{Refusal, needed, optional_instant, value};
 
 // The request of `verify`.
 fn read_verify_words<'a>(matches: &ArgMatches<'a>) -> Result<Request<'a>, Refusal<'a>>
     ensures { option_map asked_by (result_ok result) ≡ read_verify (rows_of (found_of matches.now)) }
 {
     let dir = needed(matches, &DIR)?;
-    Ok(Request::Verify { dir })
+    Ok(Request::Verify {
+        dir,
+        against: value(matches, AGAINST.name),
+    })
 }
 
 // The request of `stat`.
@@ -45,6 +48,18 @@ fn read_add_words<'a>(matches: &ArgMatches<'a>) -> Result<Request<'a>, Refusal<'
     Ok(Request::Add { dir })
 }
 
+// The request of `seal`.
+fn read_seal_words<'a>(matches: &ArgMatches<'a>) -> Result<Request<'a>, Refusal<'a>>
+    ensures { option_map asked_by (result_ok result) ≡ read_seal (rows_of (found_of matches.now)) }
+{
+    let dir = needed(matches, &DIR)?;
+    match optional_instant(matches, &SEAL_BEFORE) {
+        Ok(Some(before)) => Ok(Request::Seal { dir, before }),
+        Ok(None) => Err(Refusal::NoSealTime),
+        Err(refusal) => Err(refusal),
+    }
+}
+
 /// The request of the command on stores with this name.
 pub fn read_store_words<'a>(
     name: &str,
@@ -59,6 +74,7 @@ pub fn read_store_words<'a>(
         "compact" => read_compact_words(matches),
         "add" => read_add_words(matches),
         "expire" => read_expire_words(matches),
+        "seal" => read_seal_words(matches),
         _ => read_site_words(name, matches),
     }
 }

@@ -29,7 +29,7 @@ use Rattle.archive_engine.proofs.ArchiveLemmas.{archive_laws}
 use Rattle.archive_sets.specs.declared.fault.SelectFault.TheVariants.{Memory as select_Memory}
 use Rattle.command_line.specs.Requests.{Add, Answer, Archive, Asked, Backup, Check, Collect, Common, Compact}
 use Rattle.command_line.specs.Requests.{Confirm, Convert, Count, Diff, Digest, Expire, Follow, Merge, Migrate, Minus, Prove}
-use Rattle.command_line.specs.Requests.{Read, Reconcile, Root, Select, Send, Serve, Show, SpillArchive, Stat, Union}
+use Rattle.command_line.specs.Requests.{Read, Reconcile, Root, Seal, Select, Send, Serve, Show, SpillArchive, Stat, Union}
 use Rattle.command_line.specs.Requests.{Verify}
 use Rattle.command_line.specs.Requests.{AnswersWords, IsHelp, asks_help, frames_asked, frames_by, may_ask_help, parsed}
 use Rattle.command_line.proofs.LineLemmas.{asked_no_help}
@@ -136,7 +136,16 @@ unstarted_as (Common left right) stored old d status t = inl (refl, t)
 unstarted_as (Minus left right) stored old d status t = inl (refl, t)
 unstarted_as (Diff left right) stored old d status t = inl (refl, t)
 unstarted_as (Select asked) stored old d status t = inl (refl, (refl, t))
-unstarted_as (Digest period) stored old d status t = record {
+unstarted_as (Digest period false) stored old d status t = record {
+  ending = Some select_Memory;
+  outcome = (
+    record { xs = []; parts = []; read = tt; divided = record { each = tt; all = refl }; written = tt },
+    inl t,
+  );
+  failures = record { reader = refl; writer = refl };
+  memory = λ _. (refl, refl);
+}
+unstarted_as (Digest period true) stored old d status t = record {
   ending = Some select_Memory;
   outcome = (
     record { xs = []; parts = []; read = tt; divided = record { each = tt; all = refl }; written = tt },
@@ -163,11 +172,12 @@ unstarted_as (Send texts) stored old d status t = record {
 unstarted_as (SpillArchive way framing dir memory) stored old d status t = inl (refl, t)
 unstarted_as (Read dir conditions words) stored old d status t = inl (refl, t)
 unstarted_as (Follow dir conditions words) stored old d status t = inl (refl, t)
-unstarted_as (Verify dir) stored old d status t = inl (refl, t)
+unstarted_as (Verify dir against) stored old d status t = inl (refl, t)
 unstarted_as (Stat dir) stored old d status t = inl (refl, t)
 unstarted_as (Compact dir) stored old d status t = inl (refl, t)
 unstarted_as (Add dir) stored old d status t = inl (refl, t)
 unstarted_as (Expire dir words) stored old d status t = inl (refl, t)
+unstarted_as (Seal dir before) stored old d status t = inl (refl, t)
 unstarted_as (Reconcile dir words) stored old d status t = inl (refl, t)
 unstarted_as (Answer dir words) stored old d status t = inl (refl, t)
 unstarted_as (Backup dir to) stored old d status t = inl (refl, t)

@@ -21,11 +21,12 @@ use Rattle.archive_engine.specs.Archived.{archive_meaning}
 use Rattle.archive_engine.specs.Merged.{RanMerge, merge_devices}
 use Rattle.archive_engine.specs.Migrated.{RanMigrate}
 use Rattle.archive_sets.specs.Together.{MeetsAll}
+use Rattle.archive_text.specs.declared.period.Period.{Period}
 use Rattle.archive_sets.specs.declared.conditions.Conditions.{Conditions}
 use Rattle.condition_words.specs.Conditions.{ConditionsAsked, conditions_asked}
 use Rattle.command_line.specs.Requests.{Add, Answer, Archive, Asked, Backup, Check, Collect, Common, Compact}
 use Rattle.command_line.specs.Requests.{Confirm, Convert, Count, Diff, Digest, Expire, Follow, Merge, Migrate, Minus, Prove}
-use Rattle.command_line.specs.Requests.{Read, Reconcile, Root, Select, Send, Serve, Show, SpillArchive, Stat, Union}
+use Rattle.command_line.specs.Requests.{Read, Reconcile, Root, Seal, Select, Send, Serve, Show, SpillArchive, Stat, Union}
 use Rattle.command_line.specs.Requests.{Verify}
 use Rattle.command_line.specs.declared.request.ColorWhen.{ColorWhen}
 use Rattle.command_line.specs.declared.request.ColorWhen.TheVariants.{Always, Auto, Never}
@@ -37,7 +38,7 @@ use Rattle.archive_counts.specs.declared.options.CountForm.{CountForm}
 use Rattle.archive_counts.specs.declared.key.CountKey.{CountKey}
 use Rattle.archive_counts.specs.declared.options.CountOptions.{CountOptions}
 use Rattle.set_engine.specs.Counting.{RanCount}
-use Rattle.set_engine.specs.Digesting.{RanDigest}
+use Rattle.set_engine.specs.Digesting.{RanDigest, RanRootedDigest}
 use Rattle.set_engine.specs.Selecting.{RanSelect}
 use Rattle.set_engine.specs.declared.combination.Combination.TheVariants as combination
 use Rattle.commands.specs.JoinedFiles.{RanJoinFiles}
@@ -104,6 +105,11 @@ RanCountBy keys top form old new status =
     ⊎ ((options : CountOptions) × (options.keys.items ≡ keys) × (options.top ≡ top) × (options.form ≡ form)
     × RanCount options old new status)
 
+-- the archive on the input is summed up, with the roots or without them
+abbrev pub RanDigestBy : Bool → Period → Devices → Devices → ℕ → Type 0
+RanDigestBy false period old new status = RanDigest period old new status
+RanDigestBy true period old new status = RanRootedDigest period old new status
+
 -- so of each command
 abbrev pub RanAs : Asked → Stored → Devices → Devices → ℕ → Type 0
 RanAs (Check way framing limit summary) stored old new status =
@@ -124,7 +130,7 @@ RanAs (Minus left right) stored old new status =
 RanAs (Diff left right) stored old new status =
     RanJoinFiles combination.Diff stored (left ∷ right ∷ []) old.output new.output old.diagnostics new.diagnostics status
 RanAs (Select asked) stored old new status = RanSelectBy asked old new status
-RanAs (Digest period) stored old new status = RanDigest period old new status
+RanAs (Digest period roots) stored old new status = RanDigestBy roots period old new status
 RanAs (Count keys top form) stored old new status = RanCountBy keys top form old new status
 RanAs Root stored old new status = RanRoot old new status
 RanAs (Prove records) stored old new status = RanProveFile stored records old new status
@@ -139,7 +145,7 @@ RanAs (Read dir conditions words) stored old new status =
     RanWithout (codes "store fault\n") old.output new.output old.diagnostics new.diagnostics status
 RanAs (Follow dir conditions words) stored old new status =
     RanWithout (codes "store fault\n") old.output new.output old.diagnostics new.diagnostics status
-RanAs (Verify dir) stored old new status =
+RanAs (Verify dir against) stored old new status =
     RanWithout (codes "store fault\n") old.output new.output old.diagnostics new.diagnostics status
 RanAs (Stat dir) stored old new status =
     RanWithout (codes "store fault\n") old.output new.output old.diagnostics new.diagnostics status
@@ -148,6 +154,8 @@ RanAs (Compact dir) stored old new status =
 RanAs (Add dir) stored old new status =
     RanWithout (codes "store fault\n") old.output new.output old.diagnostics new.diagnostics status
 RanAs (Expire dir words) stored old new status =
+    RanWithout (codes "store fault\n") old.output new.output old.diagnostics new.diagnostics status
+RanAs (Seal dir before) stored old new status =
     RanWithout (codes "store fault\n") old.output new.output old.diagnostics new.diagnostics status
 RanAs (Reconcile dir words) stored old new status =
     RanWithout (codes "store fault\n") old.output new.output old.diagnostics new.diagnostics status
@@ -172,7 +180,7 @@ ReadsInput (Common left right) = ⊥
 ReadsInput (Minus left right) = ⊥
 ReadsInput (Diff left right) = ⊥
 ReadsInput (Select conditions) = Unit {0}
-ReadsInput (Digest period) = Unit {0}
+ReadsInput (Digest period roots) = Unit {0}
 ReadsInput (Count keys top form) = Unit {0}
 ReadsInput Root = Unit {0}
 ReadsInput (Prove records) = Unit {0}
@@ -182,11 +190,12 @@ ReadsInput (Send texts) = ⊥
 ReadsInput (SpillArchive way framing dir memory) = ⊥
 ReadsInput (Read dir conditions words) = ⊥
 ReadsInput (Follow dir conditions words) = ⊥
-ReadsInput (Verify dir) = ⊥
+ReadsInput (Verify dir against) = ⊥
 ReadsInput (Stat dir) = ⊥
 ReadsInput (Compact dir) = ⊥
 ReadsInput (Add dir) = ⊥
 ReadsInput (Expire dir words) = ⊥
+ReadsInput (Seal dir before) = ⊥
 ReadsInput (Reconcile dir words) = ⊥
 ReadsInput (Answer dir words) = ⊥
 ReadsInput (Backup dir to) = ⊥

@@ -11,7 +11,7 @@ ghost use Rattle.frame_engine.specs.Summaries.{check_end};
 ghost use Rattle.octet_devices.specs.Device.{InputState};
 ghost use Rattle.command_line.specs.Requests.{Asked, IsHelp, asked_by, asks_help, files_asked, frames_asked};
 ghost use Rattle.command_line.specs.Requests.{may_ask_help, parsed};
-ghost use Rattle.commands.specs.Runs.{RanAs, RanMergeFiles, RanMigrateFile, ReadsInput, TellsHelp, TellsUsage};
+ghost use Rattle.commands.specs.Runs.{RanAs, RanDigestBy, RanMergeFiles, RanMigrateFile, ReadsInput, TellsHelp, TellsUsage};
 ghost use Rattle.commands.specs.Runs.{TellsWordsFault, WritesHelp, fields_by, show_by};
 ghost use Rattle.commands.specs.Stored.{Stored};
 
@@ -19,6 +19,7 @@ use crate::files::Files;
 use crate::joining::join_files;
 use crate::proving::{confirm_file, prove_file};
 use archive_engine::{archive_input, merge_archives, migrate_archive};
+use archive_text::Period;
 use colored_show::ColoredShow;
 use command_line::{
     ColorWhen, FileRequest, FrameCommand, FrameRequest, Invocation, Request, WordsFault, read_words,
@@ -28,7 +29,9 @@ use frame_engine::{Check, CheckSummary, Convert, FrameSource, Show, ShowJson, Ta
 use octet_devices::{Input, Output, write_all};
 use proof_engine::root_archive;
 use send_engine::send_text;
-use set_engine::{Combination, count_archive, digest_archive, select_archive};
+use set_engine::{
+    Combination, count_archive, digest_archive, digest_archive_with_roots, select_archive,
+};
 use std::alloc::Global;
 use syslog_legacy::FrameReading;
 
@@ -263,6 +266,26 @@ fn run_on_files<W: Output, N: Output, F: Files>(
     }
 }
 
+// Sums up the archive on the input, period by period, with the roots or without them.
+fn run_digest<R: Input, W: Output, N: Output>(
+    alloc: Global,
+    period: Period,
+    has_roots: bool,
+    input: &mut R,
+    output: &mut W,
+    diagnostics: &mut N,
+) -> u8
+    ensures { RanDigestBy has_roots period
+        (devices (R.state input.old) (W.state output.old) (N.state diagnostics.old))
+        (devices (R.state input.new) (W.state output.new) (N.state diagnostics.new)) result }
+{
+    if has_roots {
+        digest_archive_with_roots(alloc, period, input, output, diagnostics)
+    } else {
+        digest_archive(alloc, period, input, output, diagnostics)
+    }
+}
+
 /// Does what a request asks for and returns the exit status: 0 done, 1 something was refused, 2 a
 /// device failed, 3 out of memory. Records go to the output, reports of what went wrong to the
 /// diagnostics. Nothing is known of a terminal, so records are colored only where that is asked for
@@ -289,7 +312,9 @@ pub fn run_request<R: Input, W: Output, N: Output, F: Files>(
         Request::Select { conditions } => {
             select_archive(alloc, &conditions, input, output, diagnostics)
         }
-        Request::Digest { period } => digest_archive(alloc, period, input, output, diagnostics),
+        Request::Digest { period, has_roots } => {
+            run_digest(alloc, period, has_roots, input, output, diagnostics)
+        }
         Request::Count { options } => count_archive(alloc, &options, input, output, diagnostics),
         Request::Root => root_archive(alloc, input, output, diagnostics),
         Request::Prove { records } => {
@@ -308,6 +333,7 @@ pub fn run_request<R: Input, W: Output, N: Output, F: Files>(
         Request::Compact { .. } => report(diagnostics, b"store fault\n", FAULT),
         Request::Add { .. } => report(diagnostics, b"store fault\n", FAULT),
         Request::Expire { .. } => report(diagnostics, b"store fault\n", FAULT),
+        Request::Seal { .. } => report(diagnostics, b"store fault\n", FAULT),
         Request::Reconcile { .. } => report(diagnostics, b"store fault\n", FAULT),
         Request::Answer { .. } => report(diagnostics, b"store fault\n", FAULT),
         Request::Backup { .. } => report(diagnostics, b"store fault\n", FAULT),

@@ -22,6 +22,8 @@ pub enum LockFile {
     Compaction,
     /// `lock.add`: held by the process that adds an archive, beside a writer.
     Addition,
+    /// `lock.ledger`: held by the process that writes into the ledger, beside all others.
+    Ledger,
 }
 
 impl LockFile {
@@ -33,6 +35,7 @@ impl LockFile {
             LockFile::Writing => "lock",
             LockFile::Compaction => "lock.compact",
             LockFile::Addition => "lock.add",
+            LockFile::Ledger => "lock.ledger",
         }
     }
 }

@@ -2,14 +2,15 @@
 
 use crate::option_row::CommandRow;
 use crate::options::{
-    ALLOW, APP, APP_LIKE, BARS, BEFORE, CHECKPOINT, COLOR, COMMIT, COMPARE_ALONE, CONNECTIONS,
-    COPY_DIR, COUNT, COUNTED, COUNTS_JSON, DIALECT, DIR, DRY_RUN, ENDLESS, EXPIRE_UNDATED,
-    FACILITY, FILES, FRAMING, FROM, FROM_START, HEAD_HASH, HEAD_SIZE, HOST, HOST_LIKE, ID, IDLE,
-    INHERITED, JSON, KEEP, KEYS, LAST, LEFT, LEGACY, LF, MEMORY, MESSAGE, MICROS, MSGID, NEW_DIR,
-    NOT_APP, NOT_HOST, NOT_MESSAGE, OLD_FILE, ONLY_UNDATED, OUTPUT_FRAMING, PER_PEER, PERIOD, PORT,
-    PROC, PULL, PUSH, QUIET, READ_FORM, READ_ONLY, RECORD_MESSAGE, RECORDS, RIGHT, ROOM, SENT_APP,
-    SENT_FACILITY, SENT_FRAMING, SENT_HOST, SENT_MSGID, SENT_PROC, SENT_SEVERITY, SEVERITY, SPILL,
-    SUMMARY, TIMEOUT, TOP, TRANSPORT, TRIM, UDP, UNDATED, UNIX, UNTIL, UNTIL_EOF, UP_TO, ZONE,
+    AGAINST, ALLOW, APP, APP_LIKE, BARS, BEFORE, CHECKPOINT, COLOR, COMMIT, COMPARE_ALONE,
+    CONNECTIONS, COPY_DIR, COUNT, COUNTED, COUNTS_JSON, DIALECT, DIR, DRY_RUN, ENDLESS,
+    EXPIRE_UNDATED, FACILITY, FILES, FRAMING, FROM, FROM_START, HEAD_HASH, HEAD_SIZE, HOST,
+    HOST_LIKE, ID, IDLE, INHERITED, JSON, KEEP, KEYS, LAST, LEFT, LEGACY, LF, MEMORY, MESSAGE,
+    METRICS, MICROS, MSGID, NEW_DIR, NOT_APP, NOT_HOST, NOT_MESSAGE, OLD_FILE, ONLY_UNDATED,
+    OUTPUT_FRAMING, PER_PEER, PERIOD, PORT, PROC, PULL, PUSH, QUIET, READ_FORM, READ_ONLY,
+    RECORD_MESSAGE, RECORDS, RIGHT, ROOM, ROOTS, SEAL_BEFORE, SENT_APP, SENT_FACILITY,
+    SENT_FRAMING, SENT_HOST, SENT_MSGID, SENT_PROC, SENT_SEVERITY, SEVERITY, SPILL, SUMMARY,
+    TIMEOUT, TOP, TRANSPORT, TRIM, UDP, UNDATED, UNIX, UNTIL, UNTIL_EOF, UP_TO, ZONE,
 };
 
 /// `show`.
@@ -120,7 +121,7 @@ pub const SELECT_COMMAND: CommandRow = CommandRow {
 pub const DIGEST_COMMAND: CommandRow = CommandRow {
     name: "digest",
     about: "Write a line for each period of an archive: its records, octets and SHA-256",
-    options: &[PERIOD, QUIET],
+    options: &[PERIOD, ROOTS, QUIET],
 };
 
 /// `count`.
@@ -211,8 +212,8 @@ pub const FOLLOW_COMMAND: CommandRow = CommandRow {
 /// `verify`.
 pub const VERIFY_COMMAND: CommandRow = CommandRow {
     name: "verify",
-    about: "Read a whole store and write a line for each damaged file",
-    options: &[DIR, QUIET],
+    about: "Read a whole store and write a line for each file that is damaged, missing or not listed",
+    options: &[DIR, AGAINST, QUIET],
 };
 
 /// `stat`.
@@ -241,6 +242,13 @@ pub const EXPIRE_COMMAND: CommandRow = CommandRow {
     name: "expire",
     about: "Remove old records from a store, and write a line for each file that goes",
     options: &[DIR, BEFORE, KEEP, EXPIRE_UNDATED, DRY_RUN, QUIET],
+};
+
+/// `seal`.
+pub const SEAL_COMMAND: CommandRow = CommandRow {
+    name: "seal",
+    about: "Seal the days of a store that are over: one segment each, and its root in the ledger",
+    options: &[DIR, SEAL_BEFORE, QUIET],
 };
 
 /// `reconcile`.
@@ -317,6 +325,7 @@ pub const SERVE_COMMAND: CommandRow = CommandRow {
         IDLE,
         COMMIT,
         CHECKPOINT,
+        METRICS,
         UNTIL_EOF,
         TRIM,
         LEGACY,
@@ -326,7 +335,7 @@ pub const SERVE_COMMAND: CommandRow = CommandRow {
 };
 
 /// The commands, in the order of the help.
-pub const COMMANDS: [CommandRow; 29] = [
+pub const COMMANDS: [CommandRow; 30] = [
     SHOW_COMMAND,
     CHECK_COMMAND,
     CONVERT_COMMAND,
@@ -350,6 +359,7 @@ pub const COMMANDS: [CommandRow; 29] = [
     COMPACT_COMMAND,
     ADD_COMMAND,
     EXPIRE_COMMAND,
+    SEAL_COMMAND,
     RECONCILE_COMMAND,
     ANSWER_COMMAND,
     BACKUP_COMMAND,

@@ -120,6 +120,8 @@ pub enum Refusal<'a> {
     NoListener,
     /// No option of `expire` says what is old.
     NoBound,
+    /// No option of `seal` says which days are sealed.
+    NoSealTime,
     /// An option was given beside another that excludes it.
     Excluded {
         /// The option.
@@ -235,6 +237,7 @@ pub fn refusal_text(alloc: Global, refusal: Refusal<'_>) -> Result<String, Alloc
         Refusal::NoBound => {
             String::from_str(alloc, "error: expire needs a time: --before or --keep\n")
         }
+        Refusal::NoSealTime => String::from_str(alloc, "error: seal needs a time: --before\n"),
         Refusal::Excluded { option, other } => {
             let name = option.name;
             let other = other.name;

@@ -173,6 +173,15 @@ pub const PERIOD: OptionRow = OptionRow {
     help: "Length of the periods: month, day or hour",
 };
 
+/// `--root` of `digest`.
+pub const ROOTS: OptionRow = OptionRow {
+    name: "root",
+    form: Form::Flag,
+    value: "",
+    kind: Kind::Text,
+    help: "End each line with the Merkle tree hash of its records, as root writes it",
+};
+
 /// `--by` of `count`.
 pub const KEYS: OptionRow = OptionRow {
     name: "by",
@@ -559,6 +568,24 @@ pub const BEFORE: OptionRow = OptionRow {
     help: "Remove the records before TIME, which is rounded down to the hour",
 };
 
+/// `--before` of `seal`.
+pub const SEAL_BEFORE: OptionRow = OptionRow {
+    name: "before",
+    form: Form::Single,
+    value: "time",
+    kind: Kind::Time,
+    help: "Seal the days that ended at or before TIME",
+};
+
+/// `--against` of `verify`.
+pub const AGAINST: OptionRow = OptionRow {
+    name: "against",
+    form: Form::Single,
+    value: "line",
+    kind: Kind::NonEmpty,
+    help: "Also see that the ledger still has this line, which seal printed",
+};
+
 /// `--keep` of `expire`.
 pub const KEEP: OptionRow = OptionRow {
     name: "keep",
@@ -759,6 +786,15 @@ pub const CHECKPOINT: OptionRow = OptionRow {
     value: "mib",
     kind: Kind::Number(1, 2_048),
     help: "MiB that a journal may reach before a checkpoint: 1 to 2048",
+};
+
+/// `--metrics` of `serve`.
+pub const METRICS: OptionRow = OptionRow {
+    name: "metrics",
+    form: Form::Single,
+    value: "addr:port",
+    kind: Kind::Address,
+    help: "Show metrics for Prometheus and the server's health over HTTP on ADDR:PORT",
 };
 
 /// `--until-eof` of `serve` and `follow`.

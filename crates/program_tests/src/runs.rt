@@ -121,7 +121,7 @@ fn usage_faults(rt: &HostRuntime, input: &[u8], rows: &[&[&str]]) -> Result<(), 
 
 #[test]
 fn other_words_are_a_usage_fault(rt: HostRuntime) -> Result<(), Fail> {
-    let rows: [&[&str]; 27] = [
+    let rows: [&[&str]; 28] = [
         &[],
         &["--help"],
         &["help"],
@@ -145,6 +145,7 @@ fn other_words_are_a_usage_fault(rt: HostRuntime) -> Result<(), Fail> {
         &["compact"],
         &["add"],
         &["expire", "d"],
+        &["seal", "d"],
         &["reconcile"],
         &["answer"],
         &["backup", "d"],
@@ -155,7 +156,7 @@ fn other_words_are_a_usage_fault(rt: HostRuntime) -> Result<(), Fail> {
 
 #[test]
 fn what_only_a_program_has_is_a_fault(rt: HostRuntime) -> Result<(), Fail> {
-    let rows: [(&[&str], &[u8]); 13] = [
+    let rows: [(&[&str], &[u8]); 14] = [
         (&["archive", "--spill", "d"], b"spill fault\n"),
         (&["read", "d"], b"store fault\n"),
         (&["follow", "d"], b"store fault\n"),
@@ -164,6 +165,7 @@ fn what_only_a_program_has_is_a_fault(rt: HostRuntime) -> Result<(), Fail> {
         (&["compact", "d"], b"store fault\n"),
         (&["add", "d"], b"store fault\n"),
         (&["expire", "d", "--keep", "90"], b"store fault\n"),
+        (&["seal", "d", "--before", "2026-11-25"], b"store fault\n"),
         (&["reconcile", "d"], b"store fault\n"),
         (&["answer", "d"], b"store fault\n"),
         (&["backup", "d", "e"], b"store fault\n"),

@@ -6,8 +6,9 @@ use Rattle.archive_streams.specs.Entries.{IsOpen, IsWhole, Reads}
 use Rattle.archive_sets.specs.Selected.{IsReadAt}
 use Rattle.archive_sets.specs.declared.fault.SelectFault.{SelectFault}
 use Rattle.archive_sets.specs.declared.fault.SelectFault.TheVariants.{Write, Memory}
-use Rattle.archive_tree.specs.Archives.{texts_of}
+use Rattle.archive_tree.specs.Archives.{IsRootOf, texts_of}
 use Rattle.archive_tree.specs.Trees.{HasTaken}
+use Rattle.archive_tree.specs.declared.head.TreeHead.{TreeHead}
 use Rattle.proof_engine.specs.declared.rooting.Rooting.{Rooting}
 
 -- nothing was read
@@ -39,3 +40,15 @@ pub record Halted (fault : SelectFault) (d e : InputState) : Type 0 where
   pub xs : List Entry
   pub read : IsReadAt fault d e xs
   pub cause : IsOfInput fault
+
+-- the archive was read to its end, and this is the head of its tree
+pub record HasRoot (head : TreeHead) (d e : InputState) : Type 0 where
+  pub xs : List Entry
+  pub whole : IsWhole d e xs
+  pub root : IsRootOf head xs
+
+-- a fault stopped it: lack of memory before anything was read, or one of the input behind these entries
+abbrev pub IsUnrooted : SelectFault → InputState → InputState → Type 0
+IsUnrooted (Write sent) d e = ⊥
+IsUnrooted Memory d e = Unit {0}
+IsUnrooted fault d e = Halted fault d e

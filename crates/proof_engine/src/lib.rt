@@ -17,6 +17,7 @@ pub use asking::RECORDS_MAX;
 pub use confirm::confirm_proofs;
 pub use prove::prove_archive;
 pub use root::root_archive;
+pub use rooting::root_of;
 
 #[cfg(test)]
 mod tests;

@@ -7,7 +7,7 @@ ghost use Rattle.driver.specs.Devices.{devices};
 ghost use Rattle.proof_engine.specs.Rooted.{RanRoot, Rooted, Stopped, head_text};
 
 use crate::line::head_line;
-use crate::rooting::Rooting;
+use crate::rooting::root_of;
 use archive_sets::SelectFault;
 use archive_tree::TreeHead;
 use driver::DONE;
@@ -38,11 +38,8 @@ fn root_stream<R: Input, W: Output>(
     ensures memory { IsErrOf result SelectFault.Memory → (reader.new ≡ reader.old)
         × (writer.new ≡ writer.old) }
 {
-    let Ok(mut rooting) = Rooting::new(alloc) else {
-        return Err(SelectFault::Memory);
-    };
-    match rooting.read_all(reader) {
-        Ok(()) => match put_head(writer, &rooting.tree.finish(&mut [])) {
+    match root_of(alloc, reader) {
+        Ok(head) => match put_head(writer, &head) {
             Ok(()) => Ok(()),
             Err(WriteFault { sent }) => Err(SelectFault::Write { sent }),
         },

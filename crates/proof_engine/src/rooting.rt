@@ -1,17 +1,39 @@
 //! The tree of an archive, as it is read.
 
-ghost use Rattle.std.specs.Prelude.{◌≡◌, ◌∷◌, ◌++◌, [], ◌+◌, ◌^◌, ◌<◌, ℕ, List, IfOk, MatchResult, length};
+ghost use Rattle.std.specs.Prelude.{◌≡◌, ◌∷◌, ◌++◌, [], ◌+◌, ◌^◌, ◌<◌, ℕ, List, IfOk, IsErrOf, MatchResult, length};
 ghost use Rattle.archive_streams.specs.Entries.{current};
 ghost use Rattle.archive_sets.specs.Failures.{ReadFailures};
 ghost use Rattle.archive_tree.specs.Trees.{HasTaken};
-ghost use Rattle.proof_engine.specs.Rooting.{Halted, IsFresh, ReadWhole};
+ghost use Rattle.proof_engine.specs.Rooting.{Halted, HasRoot, IsFresh, IsUnrooted, ReadWhole};
 
 use crate::reading::next_entry;
 use archive_sets::SelectFault;
 use archive_streams::ArchiveEntries;
-use archive_tree::TreeStream;
+use archive_tree::{TreeHead, TreeStream};
 use octet_devices::Input;
 use std::alloc::{AllocError, Global};
+
+/// Reads an archive to its end, and gives the head of its Merkle tree (RFC 9162, section 2.1.1), whose leaves are the
+/// canonical records without their counts.
+///
+/// # Errors
+/// The first fault of the archive or of the reader; or lack of memory, before anything is read.
+pub fn root_of<R: Input>(alloc: Global, reader: &mut R) -> Result<TreeHead, SelectFault>
+    ensures outcome { MatchResult result
+        (λ head. HasRoot head (R.state reader.old) (R.state reader.new))
+        (λ fault. IsUnrooted fault (R.state reader.old) (R.state reader.new)) }
+    ensures told { ReadFailures result (R.state reader.old).failures
+        (R.state reader.new).failures }
+    ensures memory { IsErrOf result SelectFault.Memory → reader.new ≡ reader.old }
+{
+    let Ok(mut rooting) = Rooting::new(alloc) else {
+        return Err(SelectFault::Memory);
+    };
+    match rooting.read_all(reader) {
+        Ok(()) => Ok(rooting.tree.finish(&mut [])),
+        Err(fault) => Err(fault),
+    }
+}
 
 /// The tree of an archive under way.
 #[derive(Drop)]

@@ -8,3 +8,4 @@ pub mod Kept
 pub mod Refused
 pub mod Turns
 pub mod Rounds
+pub mod Watched

@@ -11,3 +11,4 @@ pub mod Intakes
 pub mod Syncs
 pub mod Serving
 pub mod Servers
+pub mod Watching

@@ -22,6 +22,7 @@ mod server;
 mod serving;
 mod stepping;
 mod turn;
+mod watch;
 
 pub use counts::ServeCounts;
 pub use keeping::{KeepFault, Keeping, Pause, Taken};
@@ -30,3 +31,4 @@ pub use limits::{STATUS_LINES, TURN_LINES};
 pub use serve_end::ServeEnd;
 pub use server::Server;
 pub use serving::ServeOptions;
+pub use watch::{Nobody, ServerView, Watch};

@@ -3,6 +3,7 @@ ghost use Rattle.std.specs.Prelude.{◌≡◌, false, IfOk};
 ghost use Rattle.serve_engine.specs.Notes.{OwesLittle};
 ghost use Rattle.serve_engine.specs.Servers.{counts_of, intake_of, is_full, outputs_of, told_of};
 ghost use Rattle.serve_engine.specs.Counts.{no_counts};
+ghost use Rattle.serve_engine.specs.Watching.{Shows};
 
 use crate::counts::ServeCounts;
 use crate::intake::Intake;
@@ -10,6 +11,7 @@ use crate::keeping::{Keeping, Taken};
 use crate::pace::Pace;
 use crate::peers::Peers;
 use crate::report::Report;
+use crate::watch::ServerView;
 use archive_text::Store;
 use octet_devices::Output;
 use socket_source::CONNECTIONS_MAX;
@@ -84,5 +86,16 @@ impl<S: Store + Drop, K: Keeping<S> + Drop, N: Output + Drop, R: Output + Drop> 
         ensures { result ≡ counts_of self.now }
     {
         self.report.counts
+    }
+
+    // What whoever watches sees.
+    pub(crate) fn view(&self) -> ServerView
+        ensures { Shows result (counts_of self.now) (is_full self.now) }
+    {
+        ServerView {
+            counts: self.report.counts,
+            journal_len: self.intake.keeper.journal_len(),
+            waits: self.full,
+        }
     }
 }

@@ -10,14 +10,17 @@ ghost use Rattle.serve_engine.specs.Intakes.{StandsBy, waiting_in};
 ghost use Rattle.serve_engine.specs.Keepings.{Kept};
 ghost use Rattle.serve_engine.specs.Notes.{TellTurns, Telling, TellsTurn, told_in};
 ghost use Rattle.serve_engine.specs.Refusals.{KeepsSilent, kept_in, with_peer};
-ghost use Rattle.serve_engine.specs.Servers.{ServesRun, ServesTurn, SyncsTo, intake_of, place_of, told_of};
+ghost use Rattle.serve_engine.specs.Servers.{ServesRun, ServesTurn, SyncsTo, counts_of, intake_of, is_full};
+ghost use Rattle.serve_engine.specs.Servers.{place_of, told_of};
 ghost use Rattle.serve_engine.specs.Serving.{ClosesOwn, IsStepTurn, ServesStep, asks_commit, is_last};
 ghost use Rattle.serve_engine.specs.Syncs.{MakesAtMost, turn_syncs};
+ghost use Rattle.serve_engine.specs.Watching.{WatchedRun};
 
 use crate::keeping::{Keeping, Pause};
 use crate::serve_end::ServeEnd;
 use crate::server::Server;
 use crate::turn::Turn;
+use crate::watch::Watch;
 use archive_text::Store;
 use octet_devices::Output;
 use socket_source::{PIECE_MAX, ServerSource, ServerStep};
@@ -130,11 +133,13 @@ impl<S: Store + Drop, K: Keeping<S> + Drop, N: Output + Drop, R: Output + Drop> 
     }
 
     /// Serves a source until it has finished or failed, the disk has failed, or memory has run out.
-    pub fn serve<Q: ServerSource, P: Pause>(
+    /// Whoever watches is shown the server after each turn.
+    pub fn serve<Q: ServerSource, P: Pause, W: Watch>(
         &mut self,
         alloc: Global,
         source: &mut Q,
         pause: &mut P,
+        watch: &mut W,
         options: &ServeOptions,
     ) -> ServeEnd
         ensures served { ServesRun S.entries K.stands result
@@ -151,12 +156,16 @@ impl<S: Store + Drop, K: Keeping<S> + Drop, N: Output + Drop, R: Output + Drop> 
         ensures syncs { SyncsTo S.entries K.stands K.syncs K.most_syncs result
             (place_of R.state K.short self.old (Q.state source.old))
             (place_of R.state K.short self.new (Q.state source.new)) }
+        // Whoever watches has seen it as it is.
+        ensures watched { WatchedRun W.sees result watch.old watch.new (counts_of self.new) (is_full self.new) }
     {
         let Ok(mut buf) = vec![in alloc; 0u8; PIECE_MAX] else {
             return ServeEnd::Memory;
         };
         for _turn in 0..u64::MAX {
-            match self.turn(alloc, source, pause, &mut buf, options) {
+            let went = self.turn(alloc, source, pause, &mut buf, options);
+            watch.see(&self.view());
+            match went {
                 Turn::On => {}
                 Turn::End(end) => return end,
             }

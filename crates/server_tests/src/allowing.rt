@@ -4,7 +4,7 @@ use archive_pages::PagedArchive;
 use archive_text::Store;
 use octet_devices::ToWrite;
 use peer_rules::{AllowList, Network};
-use serve_engine::{KeepFault, Keeping, Pause, ServeCounts, ServeOptions, Server, Taken};
+use serve_engine::{KeepFault, Keeping, Nobody, Pause, ServeCounts, ServeOptions, Server, Taken};
 use socket_source::{
     Listener, MemorySource, ServerSource, ServerStep, SocketSource, SourceOptions,
 };
@@ -229,7 +229,9 @@ fn served(alloc: Global, steps: &[ServerStep]) -> Result<(Vec<u8>, ServeCounts),
         count_millis: 1,
         counts_not_allowed: true,
     };
-    let _end = server.serve(alloc, &mut source, &mut NoPause, &options);
+    let mut nobody = Nobody;
+    let _end = server.serve(alloc, &mut source, &mut NoPause, &mut nobody, &options);
+    let Nobody = nobody;
     let counts = server.counts();
     let (_keeper, notes, _refused) = server.into_parts();
     Ok((notes.into_inner(), counts))

@@ -4,7 +4,9 @@ use archive_pages::PagedArchive;
 use archive_text::Store;
 use octet_devices::{Fuse, ToWrite};
 use peer_rules::AllowList;
-use serve_engine::{KeepFault, Keeping, Pause, ServeCounts, ServeEnd, ServeOptions, Server, Taken};
+use serve_engine::{
+    KeepFault, Keeping, Nobody, Pause, ServeCounts, ServeEnd, ServeOptions, Server, Taken,
+};
 use socket_source::{ConnectionEnd, MemorySource, ServerStep, SourceFault};
 use std::alloc::Global;
 use std::net::SocketAddr;
@@ -212,7 +214,9 @@ fn served_with(
         count_millis,
         counts_not_allowed: false,
     };
-    let end = server.serve(alloc, &mut source, &mut pause, &options);
+    let mut nobody = Nobody;
+    let end = server.serve(alloc, &mut source, &mut pause, &mut nobody, &options);
+    let Nobody = nobody;
     let counts = server.counts();
     let (keeper, notes, refused) = server.into_parts();
     Ok(Service {

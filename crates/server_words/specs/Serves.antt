@@ -1,10 +1,12 @@
 -- What the words of `serve` ask for.
 use Rattle.std.specs.Prelude.{ℕ, ◌/◌, List, [], ◌∷◌, None, Option, Some, codes, if◌then◌else◌, map, max, nat_le}
 use Rattle.std.specs.Prelude.{option_and_then, option_map}
+use Rattle.std.specs.declared.net.socket_addr.SocketAddr.{SocketAddr}
 use Rattle.clap.specs.Walk.{Row, Text, first_of}
 use Rattle.option_values.specs.Numbers.{number_in}
 use Rattle.option_values.specs.Readings.{reading_in}
 use Rattle.option_values.specs.Values.{is_given_in, optional}
+use Rattle.server_words.specs.Addresses.{address_in}
 use Rattle.server_words.specs.Listeners.{ListenerAsked, listener_asked, listeners_in}
 use Rattle.server_words.specs.Networks.{NetworkAsked, network_asked, networks_in}
 use Rattle.server_words.specs.declared.serve_words.ServeOptions.{ServeOptions}
@@ -31,19 +33,24 @@ abbrev pub per_peer_of : Option ℕ → ℕ → Option ℕ
 per_peer_of None connections = Some (max (connections / 4) 1)
 per_peer_of (Some number) connections = if nat_le number connections then Some number else None
 
+-- where metrics are shown, if anywhere
+abbrev pub metrics_in : List Row → Option (Option SocketAddr)
+metrics_in rows = optional address_in (first_of (codes "metrics") rows)
+
 -- the values of the options of the server
 abbrev pub options_in : List Row → Option ServeOptions
 options_in rows =
     option_and_then (λ connections. option_and_then (λ given. option_and_then (λ per_peer. option_and_then (λ idle.
-    option_and_then (λ commit. option_and_then (λ checkpoint. option_map (λ way. record {
+    option_and_then (λ commit. option_and_then (λ checkpoint. option_and_then (λ metrics. option_map (λ way. record {
       connections = connections;
       per_peer = per_peer;
       idle_seconds = idle;
       commit_millis = commit;
       checkpoint_mib = checkpoint;
+      metrics = metrics;
       until_eof = is_given_in (codes "until-eof") rows;
       reading = way;
-    }) (reading_in rows)) (option_and_then (number_in 1 2_048) (first_of (codes "checkpoint") rows)))
+    }) (reading_in rows)) (metrics_in rows)) (option_and_then (number_in 1 2_048) (first_of (codes "checkpoint") rows)))
     (option_and_then (number_in 0 3_600_000) (first_of (codes "commit") rows)))
     (optional (number_in 1 31_536_000) (first_of (codes "idle") rows))) (per_peer_of given connections))
     (optional (number_in 1 16_384) (first_of (codes "per-peer") rows)))

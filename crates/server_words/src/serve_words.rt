@@ -3,15 +3,19 @@
 ghost use Rattle.std.specs.Prelude.{◌≡◌, IfOk, option_map};
 ghost use Rattle.std.specs.Result.{result_ok};
 ghost use Rattle.clap.specs.Words.{found_of, rows_of};
-ghost use Rattle.server_words.specs.Serves.{options_in, per_peer_of, serve_asked, serve_in};
+ghost use Rattle.server_words.specs.Serves.{metrics_in, options_in, per_peer_of, serve_asked, serve_in};
 
+use crate::address::address;
 use crate::listeners::{ListenerWords, listeners};
 use crate::networks::networks;
 use clap::ArgMatches;
-use option_values::options::{CHECKPOINT, COMMIT, CONNECTIONS, IDLE, NEW_DIR, PER_PEER, UNTIL_EOF};
+use option_values::options::{
+    CHECKPOINT, COMMIT, CONNECTIONS, IDLE, METRICS, NEW_DIR, PER_PEER, UNTIL_EOF,
+};
 use option_values::{Refusal, is_given, number, optional_number, reading_of_matches, value};
 use peer_rules::Network;
 use std::alloc::{AllocError, Global};
+use std::net::SocketAddr;
 use syslog_legacy::FrameReading;
 
 /// What a server is to do.
@@ -29,6 +33,8 @@ pub struct ServeOptions {
     pub commit_millis: u32,
     /// At how many MiB of a journal a checkpoint is made, 1 to 2,048.
     pub checkpoint_mib: u32,
+    /// Where its metrics and its health are shown over HTTP; None means nowhere.
+    pub metrics: Option<SocketAddr>,
     /// Whether the server ends with standard input.
     pub until_eof: bool,
     /// How frames are read.
@@ -65,6 +71,19 @@ fn per_peer(given: Option<u32>, connections: u32) -> Result<u32, Refusal<'static
     }
 }
 
+// Where metrics are shown, if that is asked for.
+fn metrics<'a>(matches: &ArgMatches<'a>) -> Result<Option<SocketAddr>, Refusal<'a>>
+    ensures { result_ok result ≡ metrics_in (rows_of (found_of matches.now)) }
+{
+    let Some(text) = value(matches, METRICS.name) else {
+        return Ok(None);
+    };
+    match address(text) {
+        Some(address) => Ok(Some(address)),
+        None => Err(METRICS.refuses(METRICS.kind, text)),
+    }
+}
+
 // What a server is to do, by the options.
 fn options<'a>(matches: &ArgMatches<'a>) -> Result<ServeOptions, Refusal<'a>>
     ensures { result_ok result ≡ options_in (rows_of (found_of matches.now)) }
@@ -75,6 +94,7 @@ fn options<'a>(matches: &ArgMatches<'a>) -> Result<ServeOptions, Refusal<'a>>
     let idle_seconds = optional_number(matches, &IDLE)?;
     let commit_millis = number(matches, &COMMIT)?;
     let checkpoint_mib = number(matches, &CHECKPOINT)?;
+    let metrics = metrics(matches)?;
     let reading = reading_of_matches(matches)?;
     Ok(ServeOptions {
         connections,
@@ -82,6 +102,7 @@ fn options<'a>(matches: &ArgMatches<'a>) -> Result<ServeOptions, Refusal<'a>>
         idle_seconds,
         commit_millis,
         checkpoint_mib,
+        metrics,
         until_eof: is_given(matches, UNTIL_EOF.name),
         reading,
     })

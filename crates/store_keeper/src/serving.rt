@@ -7,7 +7,8 @@ ghost use Rattle.syslog_collect.specs.declared.limits.TheConstants.{CONNECTIONS_
 ghost use Rattle.durable_store.specs.declared.checkpoint.TheConstants.{CHECKPOINT_SYNCS};
 ghost use Rattle.serve_engine.specs.Intakes.{StandsBy};
 ghost use Rattle.serve_engine.specs.Keepings.{Kept};
-ghost use Rattle.serve_engine.specs.Servers.{LeadsTo, SyncsTo, intake_of, place_of};
+ghost use Rattle.serve_engine.specs.Servers.{LeadsTo, SyncsTo, counts_of, intake_of, is_full, place_of};
+ghost use Rattle.serve_engine.specs.Watching.{WatchedRun};
 ghost use Rattle.store_keeper.specs.Keepers.{KeepsOn, disk_of};
 ghost use Rattle.store_keeper.specs.Keeping.{kept_whole};
 ghost use Rattle.store_keeper.specs.Runs.{RunLeaves};
@@ -17,7 +18,7 @@ use crate::keeper::DiskKeeper;
 use crate::spared::SparedSet;
 use disk::Disk;
 use octet_devices::Output;
-use serve_engine::{Pause, ServeEnd, ServeOptions, Server};
+use serve_engine::{Pause, ServeEnd, ServeOptions, Server, Watch};
 use socket_source::ServerSource;
 use std::alloc::{AllocError, Global};
 use syslog_collect::Collector;
@@ -52,11 +53,19 @@ pub fn server_on<D: Disk + Drop, N: Output + Drop, R: Output + Drop>(
 /// Serves a source into a store, as `Server::serve` does. Once it has finished, every crash leaves in
 /// the store's folder what was there first and what was received. However it ends, every crash leaves
 /// all that was committed in any of its turns, and nothing that was not received.
-pub fn serve<D: Disk + Drop, N: Output + Drop, R: Output + Drop, Q: ServerSource, P: Pause>(
+pub fn serve<
+    D: Disk + Drop,
+    N: Output + Drop,
+    R: Output + Drop,
+    Q: ServerSource,
+    P: Pause,
+    W: Watch,
+>(
     alloc: Global,
     server: &mut Server<SparedSet, DiskKeeper<D>, N, R>,
     source: &mut Q,
     pause: &mut P,
+    watch: &mut W,
     options: &ServeOptions,
 ) -> ServeEnd
     ensures leaves { (k : Kept) (first : List Entry) (before : List AcceptedEvent)
@@ -70,6 +79,8 @@ pub fn serve<D: Disk + Drop, N: Output + Drop, R: Output + Drop, Q: ServerSource
     ensures syncs { SyncsTo spared_entries KeepsOn (λ keeper. D.syncs (disk_of keeper)) CHECKPOINT_SYNCS result
         (place_of R.state is_short server.old (Q.state source.old))
         (place_of R.state is_short server.new (Q.state source.new)) }
+    // Whoever watches has seen the server as it is.
+    ensures watched { WatchedRun W.sees result watch.old watch.new (counts_of server.new) (is_full server.new) }
 {
-    server.serve(alloc, source, pause, options)
+    server.serve(alloc, source, pause, watch, options)
 }

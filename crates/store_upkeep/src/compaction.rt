@@ -1,5 +1,5 @@
 //! The segments of a period are joined into one.
-ghost use Rattle.std.specs.Prelude.{◌≡◌, ◌≢◌, ◌↔◌, Contains, IfOk, IsTrue, List, None, OnOk, Some, ℕ};
+ghost use Rattle.std.specs.Prelude.{◌≡◌, ◌≢◌, ◌≤◌, ◌↔◌, Contains, IfOk, IsTrue, List, None, OnOk, Some, ℕ};
 ghost use Rattle.journal.specs.Journals.{IsOnDisk, IsSound};
 ghost use Rattle.archive_text.specs.Entries.{Entry};
 ghost use Rattle.record_store.specs.Names.{Counts, IsSegment};
@@ -120,7 +120,7 @@ fn join_day<D: StreamDisk>(
     ensures few { OnOk result (D.tells disk.new → IsSound (D.state disk.old)
         → (names : List (List ℕ)) → AreListed (D.state disk.old) names
         → AreDayNames names period.now segments.now
-        → HasAtMost SEGMENTS_MAX (D.state disk.new) period.now) }
+        → (most : ℕ) → 1 ≤ most → HasAtMost most (D.state disk.new) period.now) }
     ensures sound { OnOk result (D.tells disk.new → IsSound (D.state disk.old)
         → (names : List (List ℕ)) → AreListed (D.state disk.old) names
         → AreDayNames names period.now segments.now → IsSound (D.state disk.new)) }
@@ -150,14 +150,15 @@ fn join_day<D: StreamDisk>(
     Ok(())
 }
 
-// Joins the segments of a period where it has more than `SEGMENTS_MAX`.
+// Joins the segments of a period where it has more than so many.
 fn compact_day<D: StreamDisk>(
     alloc: Global,
     disk: &mut D,
     period: &Period,
+    most: usize,
 ) -> Result<(), CompactFault>
     ensures few { OnOk result (D.tells disk.new → IsSound (D.state disk.old)
-        → HasAtMost SEGMENTS_MAX (D.state disk.new) period.now) }
+        → 1 ≤ most → HasAtMost most (D.state disk.new) period.now) }
     ensures sound { OnOk result (D.tells disk.new → IsSound (D.state disk.old)
         → IsSound (D.state disk.new)) }
 
@@ -172,11 +173,39 @@ fn compact_day<D: StreamDisk>(
 {
     let names = list(alloc, disk)?;
     let segments = names_of(alloc, &names, period)?;
-    if segments.len() <= SEGMENTS_MAX {
+    if segments.len() <= most {
         return Ok(());
     }
     join_day(alloc, disk, &segments, period)?;
     Ok(())
+}
+
+/// Joins the segments of a period into one, and then removes those that were joined, in the way of [`compact`].
+///
+/// # Errors
+/// As of [`compact`].
+pub fn join_period<D: StreamDisk>(
+    alloc: Global,
+    disk: &mut D,
+    period: &Period,
+) -> Result<(), CompactFault>
+    ensures few { OnOk result (D.tells disk.new → IsSound (D.state disk.old)
+        → HasAtMost 1 (D.state disk.new) period.now) }
+
+    // whatever the result is, the set is the same: so at every moment
+    ensures set { D.tells disk.new → IsSound (D.state disk.old)
+        → KeepsSet (D.state disk.old) (D.state disk.new) }
+
+    // whatever the result is, all that is no segment of the period shows what it showed
+    ensures others { D.tells disk.new → IsSameApart period.now (D.state disk.old) (D.state disk.new) }
+
+    // and so do those of the period, if one is damaged
+    ensures whole { D.tells disk.new → IsSound (D.state disk.old)
+        → KeepsUnlessDayIsWhole period.now (D.state disk.old) (D.state disk.new) }
+
+    ensures told { D.tells disk.new → D.tells disk.old }
+{
+    compact_day(alloc, disk, period, 1)
 }
 
 // Whether a period is the last one.
@@ -228,7 +257,7 @@ fn compact_day_of<D: StreamDisk>(
     if listed.len() <= SEGMENTS_MAX {
         return Ok(Some(period));
     }
-    compact_day(alloc, disk, &period)?;
+    compact_day(alloc, disk, &period, SEGMENTS_MAX)?;
     Ok(Some(period))
 }
 

@@ -11,11 +11,11 @@ mod verification;
 mod whole_files;
 
 pub use compact_fault::{CompactFault, check_fault, open_fault, write_fault};
-pub use compaction::{SEGMENTS_MAX, compact};
+pub use compaction::{SEGMENTS_MAX, compact, join_period};
 pub use damage::DamagedFile;
 pub use segments::{
     begin as begin_draft, discard as discard_draft, list as list_names, name_of_draft,
-    open as open_file, settle as settle_draft,
+    names_of as segments_of, open as open_file, settle as settle_draft,
 };
 pub use stream_disk::StreamDisk;
 pub use verification::verify;

@@ -73,11 +73,7 @@ fn names_of_day(
 }
 
 /// Those of the names of a folder that are segments of a period.
-pub(crate) fn names_of(
-    alloc: Global,
-    names: &Names,
-    period: &Period,
-) -> Result<Vec<FileName>, AllocError>
+pub fn names_of(alloc: Global, names: &Names, period: &Period) -> Result<Vec<FileName>, AllocError>
     ensures { IfOk result (λ v. AreDayNames names.now period.now v.items) }
 {
     names_of_day(alloc, names.of(period.as_octets()), period)

@@ -8,7 +8,9 @@
 //! digests its periods. [`merging_is_union`] and its fellows are the laws.
 #![tactic(auto)]
 
-pub use archive_digest::{DigestFault, Period, digest_stream, digests_are_one};
+pub use archive_digest::{
+    DigestFault, Period, digest_stream, digest_stream_with_roots, digests_are_one,
+};
 pub use archive_join::{
     Common, Diff, JoinFault, Kept, Minus, Union, archives_of_ranges_are_concatenated,
     common_and_minus_part_an_archive, equal_archives_do_not_differ, join_streams,

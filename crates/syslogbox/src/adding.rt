@@ -1,9 +1,11 @@
 //! `add`, over a folder of the system.
 
+use crate::ledgers::{SystemTurns, report_list_fault, report_turn_fault};
 use crate::meter::{ClearedWriter, Meter, MeteredReader, SharedMeter, stdin_octets};
 use crate::stores::report_lock_fault;
 use driver::{FAULT, NO_MEMORY, report};
 use folder_disk::{FolderDisk, FolderFault, FolderLock, LockFile};
+use ledger_disk::{LedgerDisk, Purpose};
 use octet_devices::{FromRead, Output, ToWrite};
 use std::alloc::Global;
 use std::io::ErrorKind;
@@ -25,14 +27,17 @@ pub fn report_folder_fault<N: Output>(
     }
 }
 
-/// Opens the folder of a store that records are put into, which is made if it is missing, and locks it against
-/// others who add; or reports why not, and gives the exit status.
-pub fn open_to_add<N: Output>(
-    rt: &HostRuntime,
+// The folder of a store that records are put into, whose ledger takes the segments that are made.
+type AddedTo<'d> = LedgerDisk<FolderDisk<HostRuntime>, SystemTurns<'d>>;
+
+// Opens the folder of a store that records are put into, which is made if it is missing, and locks it against
+// others who add; or reports why not, and gives the exit status.
+fn open_to_add<'d, N: Output>(
+    rt: &'d HostRuntime,
     alloc: Global,
-    dir: &str,
+    dir: &'d str,
     diagnostics: &mut N,
-) -> Result<FolderDisk<HostRuntime>, u8> {
+) -> Result<AddedTo<'d>, u8> {
     let mut disk = match FolderDisk::create(rt, dir) {
         Ok(disk) => disk,
         Err(fault) => return Err(report_folder_fault(alloc, dir, fault, diagnostics)),
@@ -42,7 +47,17 @@ pub fn open_to_add<N: Output>(
         Ok(taken) => disk.hold(taken),
         Err(fault) => return Err(report_lock_fault(alloc, lock, fault, diagnostics)),
     }
-    Ok(disk)
+    let turns = SystemTurns::new(rt, dir);
+    let Ok(mut disk) = LedgerDisk::new(alloc, disk, turns, Purpose::Add) else {
+        return Err(report(diagnostics, b"want of memory\n", NO_MEMORY));
+    };
+    match disk.catch_up() {
+        Ok(()) => Ok(disk),
+        Err(fault) => {
+            let error = disk.disk().last_error();
+            Err(report_list_fault(alloc, fault, disk.turns(), error, diagnostics))
+        }
+    }
 }
 
 // Puts the records of standard input, whose octets a meter counts, into the store in a folder.
@@ -62,7 +77,10 @@ fn add_metered(rt: &HostRuntime, alloc: Global, dir: &str, meter: SharedMeter<'_
     });
     let status = add_to_store(alloc, &mut disk, &mut input, &mut diagnostics);
     meter.clear();
-    match disk.last_error() {
+    if let Some(status) = report_turn_fault(alloc, disk.turns(), &mut diagnostics) {
+        return status;
+    }
+    match disk.disk().last_error() {
         Some(error) if status == FAULT => report_file_error(alloc, dir, error, &mut diagnostics),
         _ => status,
     }

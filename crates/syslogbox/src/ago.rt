@@ -6,7 +6,7 @@ use syslog_grammar::canonical_timestamp;
 use syslog_value::Instant;
 
 // The commands that take times.
-const COMMANDS: [&str; 4] = ["select", "read", "expire", "reconcile"];
+const COMMANDS: [&str; 6] = ["select", "read", "follow", "expire", "reconcile", "seal"];
 
 // The options that take them.
 const OPTIONS: [&str; 3] = ["--from", "--to", "--before"];
@@ -45,8 +45,8 @@ fn micros_ago(word: &str) -> Option<u64> {
     Some(number(digits)?.saturating_mul(unit_micros(*unit)?))
 }
 
-// The microseconds from 1970 on by the system's clock.
-fn now_micros(rt: &HostRuntime) -> Option<i64> {
+/// The microseconds from 1970 on by the system's clock.
+pub(crate) fn now_micros(rt: &HostRuntime) -> Option<i64> {
     let since = SystemTime::now(rt).ok()?.duration_since(UNIX_EPOCH).ok()?;
     i64::try_from(since.as_micros()).ok()
 }

@@ -1,18 +1,20 @@
 //! A source that writes out what a server told before it is asked for more, and tells the service
-//! manager of ticks.
+//! manager of ticks, and whoever watches of each step.
 
 use crate::outputs::Outputs;
+use crate::watched::Watcher;
 use socket_source::{ServerSource, ServerStep};
 
 /// A source, before each of whose steps the outputs are flushed.
 #[derive(Drop)]
-pub struct Flushing<'t, 'n, 'f, 'r, Q> {
+pub struct Flushing<'t, 'n, 'f, 'r, 'w, Q> {
     pub rt: &'t HostRuntime,
     pub source: Q,
     pub outputs: Outputs<'n, 'f, 'r>,
+    pub watcher: Watcher<'w, 't>,
 }
 
-impl<'t, 'n, 'f, 'r, Q: ServerSource> ServerSource for Flushing<'t, 'n, 'f, 'r, Q> {
+impl<'t, 'n, 'f, 'r, 'w, Q: ServerSource> ServerSource for Flushing<'t, 'n, 'f, 'r, 'w, Q> {
     ghost state = { λ f. Q.state f.source };
 
     fn next(&mut self, buf: &mut [u8]) -> ServerStep {
@@ -21,10 +23,12 @@ impl<'t, 'n, 'f, 'r, Q: ServerSource> ServerSource for Flushing<'t, 'n, 'f, 'r, 
         if matches!(step, ServerStep::Tick) {
             self.outputs.notes.tell_alive(self.rt);
         }
+        self.watcher.step(&step);
         step
     }
 
     fn close(&mut self, conn: u32) {
         self.source.close(conn);
+        self.watcher.closed();
     }
 }

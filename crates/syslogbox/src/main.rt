@@ -3,6 +3,7 @@
 
 mod adding;
 mod ago;
+mod askers;
 mod collect;
 mod colors;
 mod columns;
@@ -15,6 +16,7 @@ mod errors;
 mod flushing;
 mod follow;
 mod followed_folder;
+mod ledgers;
 mod meter;
 mod metered_store;
 mod notes;
@@ -30,6 +32,7 @@ mod stores;
 mod telling;
 mod time;
 mod timed_pipe;
+mod watched;
 
 use command_line::{FileRequest, FrameCommand, FrameRequest, Invocation, Request, read_words};
 use commands::{answer_words_fault, run_request};
@@ -173,10 +176,11 @@ fn run_on_store(
             conditions,
             words,
         } => follow::follow(rt, alloc, dir, &conditions, words, output, diagnostics),
-        Request::Verify { dir } => stores::verify(rt, alloc, dir, is_quiet),
+        Request::Verify { dir, against } => stores::verify(rt, alloc, dir, against, is_quiet),
         Request::Stat { dir } => stores::stat(rt, alloc, dir, output, diagnostics),
         Request::Compact { dir } => stores::compact(rt, alloc, dir, is_quiet),
         Request::Expire { dir, words } => stores::expire(rt, alloc, dir, words, is_quiet),
+        Request::Seal { dir, before } => stores::seal(rt, alloc, dir, before, is_quiet),
         Request::Add { dir } => adding::add(rt, alloc, dir, is_quiet),
         Request::Reconcile { dir, words } => sites::reconcile(rt, alloc, dir, &words),
         Request::Answer { dir, words } => sites::answer(rt, alloc, dir, &words),

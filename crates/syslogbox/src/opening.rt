@@ -1,11 +1,13 @@
 //! What a server opens in a store's folder.
 
+use crate::ledgers::SystemTurns;
 use crate::refused::{Behind, RefusedFile};
 use crate::telling::Teller;
 use disk::DiskFault;
 use durable_store::{OpenFault, SetAside, check_journals};
 use folder_disk::{FolderDisk, FolderLock, LockFault, LockFile};
 use journal::JournalFault;
+use ledger_disk::{LedgerDisk, Purpose};
 use record_store::StoreFault;
 use std::io;
 use store_keeper::{DiskKeeper, SoundDisk};
@@ -13,8 +15,8 @@ use store_keeper::{DiskKeeper, SoundDisk};
 /// The exit status of a server that does not begin.
 pub type Fault = u8;
 
-/// The store of a folder.
-pub type Keeper = DiskKeeper<FolderDisk<HostRuntime>>;
+/// The store of a folder, whose ledger takes the segments that are made.
+pub type Keeper<'d> = DiskKeeper<LedgerDisk<FolderDisk<HostRuntime>, SystemTurns<'d>>>;
 
 // Whether memory ran out while a store was opened.
 fn wants_memory(fault: &OpenFault) -> bool {
@@ -118,11 +120,15 @@ fn tell_aside(teller: Teller<'_, '_>, aside: SetAside) -> Result<(), Fault> {
 }
 
 // Opens the store on a disk.
-fn open_keeper(
-    teller: Teller<'_, '_>,
-    dir: &str,
+fn open_keeper<'d>(
+    teller: Teller<'d, '_>,
+    dir: &'d str,
     disk: FolderDisk<HostRuntime>,
-) -> Result<Keeper, Fault> {
+) -> Result<Keeper<'d>, Fault> {
+    let turns = SystemTurns::new(teller.rt, dir);
+    let Ok(disk) = LedgerDisk::new(teller.rt.alloc(), disk, turns, Purpose::Serve) else {
+        return Err(teller.out_of_memory());
+    };
     match DiskKeeper::open(teller.rt.alloc(), SoundDisk { disk }) {
         Ok(keeper) => {
             for aside in keeper.set_aside() {
@@ -131,14 +137,14 @@ fn open_keeper(
             Ok(keeper)
         }
         Err((fault, disk)) => {
-            tell_note_error(teller, dir, &disk);
-            Err(refuse_store(teller, dir, fault, &disk))
+            tell_note_error(teller, dir, disk.disk());
+            Err(refuse_store(teller, dir, fault, disk.disk()))
         }
     }
 }
 
 /// Opens the store in a folder, which is made where it is missing. Its lock is held as long as its disk.
-pub fn open_store(teller: Teller<'_, '_>, dir: &str) -> Result<Keeper, Fault> {
+pub fn open_store<'d>(teller: Teller<'d, '_>, dir: &'d str) -> Result<Keeper<'d>, Fault> {
     let rt = teller.rt;
     let mut disk = match FolderDisk::create(rt, dir) {
         Ok(disk) => disk,

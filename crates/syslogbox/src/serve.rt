@@ -1,5 +1,6 @@
 //! `serve`, over the sockets of the system and a store in a folder.
 
+use crate::askers::Askers;
 use crate::copy_disk::is_unfinished;
 use crate::flushing::Flushing;
 use crate::notes::Notes;
@@ -8,15 +9,18 @@ use crate::outputs::{Outputs, SharedNotes, SharedRefused};
 use crate::service_manager::ServiceManager;
 use crate::telling::Teller;
 use crate::time::ServerTime;
+use crate::watched::{Watched, Watcher};
 use driver::{NO_MEMORY, report};
 use folder_disk::FolderDisk;
 use octet_devices::ToWrite;
 use peer_rules::AllowList;
-use serve_engine::{ServeEnd, ServeOptions, Server};
+use serve_engine::{ServeCounts, ServeEnd, ServeOptions, Server};
+use server_metrics::{ListenerCounts, ListenerRow};
 use server_words::{InheritedKind, ListenerWords, ServeWords};
 use socket_source::{Inherited, Listener, OpenFault as SocketFault, SocketSource, SourceOptions};
 use std::alloc::{AllocError, Global};
 use std::cell::RefCell;
+use std::net::SocketAddr;
 use std::time::Duration;
 use store_engine::shown;
 use store_keeper::{SparedSet, server_on};
@@ -27,9 +31,9 @@ const RECEIVE_BUFFER: u32 = 16 << 20;
 // Milliseconds between two lines of counts.
 const COUNT_MILLIS: u64 = 60_000;
 
-type Stores<'n, 'f, 'r> = Server<
+type Stores<'n, 'f, 'r, 'd> = Server<
     SparedSet,
-    Keeper,
+    Keeper<'d>,
     ToWrite<SharedNotes<'n>>,
     ToWrite<SharedRefused<'f, 'r>>,
 >;
@@ -125,32 +129,102 @@ fn open_sockets<'a>(
     }
 }
 
-// Tells where each listener listens.
-fn tell_listeners(
-    teller: Teller<'_, '_>,
+// Where a listener listens, with its kind.
+fn name_of(
+    alloc: Global,
+    one: &ListenerWords<'_>,
+    address: Option<SocketAddr>,
+) -> Result<String, AllocError> {
+    let kind = kind_of(one);
+    let place = match address {
+        Some(address) => format!(in alloc; "{address}")?,
+        None => shown(alloc, place_of(alloc, one)?.as_str())?,
+    };
+    format!(in alloc; "{kind} {place}")
+}
+
+// The listeners by their names, of which nothing is counted yet.
+fn listener_rows(
+    alloc: Global,
     words: &ServeWords<'_>,
     source: &SocketSource<'_, HostRuntime>,
-) -> Result<(), AllocError> {
-    let alloc = teller.rt.alloc();
+) -> Result<Vec<ListenerRow>, AllocError> {
+    let mut rows = Vec::new(alloc);
     for (n, one) in words.listeners.iter().enumerate() {
-        let kind = kind_of(one);
-        let place = match source.local_addr(n) {
-            Some(addr) => format!(in alloc; "{addr}")?,
-            None => shown(alloc, place_of(alloc, one)?.as_str())?,
-        };
-        let line = format!(in alloc; "listening {kind} {place}\n")?;
+        rows.push(ListenerRow {
+            name: name_of(alloc, one, source.local_addr(n))?,
+            counts: ListenerCounts {
+                records: 0,
+                octets: 0,
+                not_records: 0,
+                too_long: 0,
+                broken: 0,
+                not_allowed: 0,
+            },
+        })?;
+    }
+    Ok(rows)
+}
+
+// Tells where each listener listens.
+fn tell_listeners(teller: Teller<'_, '_>, rows: &[ListenerRow]) -> Result<(), AllocError> {
+    for row in rows {
+        let line = format!(in teller.rt.alloc(); "listening {}\n", row.name)?;
         teller.tell(line.as_str());
     }
     Ok(())
 }
 
+// Tells where metrics are shown.
+fn tell_askers(teller: Teller<'_, '_>, askers: &Askers) -> Result<(), AllocError> {
+    if let Some(address) = askers.local_addr() {
+        let line = format!(in teller.rt.alloc(); "listening metrics {address}\n")?;
+        teller.tell(line.as_str());
+    }
+    Ok(())
+}
+
+// Listens for those who ask for metrics, if that is asked for.
+fn open_askers(teller: Teller<'_, '_>, words: &ServeWords<'_>) -> Result<Option<Askers>, Fault> {
+    let Some(address) = words.options.metrics else {
+        return Ok(None);
+    };
+    match Askers::open(teller.rt, address) {
+        Ok(askers) => Ok(Some(askers)),
+        Err(error) => match format!(in teller.rt.alloc(); "{address}") {
+            Ok(place) => Err(teller.refuse(place.as_str(), error)),
+            Err(_) => Err(teller.out_of_memory()),
+        },
+    }
+}
+
+// Tells where each listener listens, and what is watched of them, if anybody may ask.
+fn begin_watching<'t>(
+    teller: Teller<'t, '_>,
+    words: &ServeWords<'_>,
+    source: &SocketSource<'_, HostRuntime>,
+    askers: Option<Askers>,
+    counts: ServeCounts,
+) -> Result<Option<RefCell<Watched<'t>>>, AllocError> {
+    let rows = listener_rows(teller.rt.alloc(), words, source)?;
+    tell_listeners(teller, rows.as_slice())?;
+    match askers {
+        Some(askers) => {
+            tell_askers(teller, &askers)?;
+            let watched = Watched::new(teller.rt, askers, rows, counts)?;
+            Ok(Some(RefCell::new(watched)))
+        }
+        None => Ok(None),
+    }
+}
+
 // Makes the server.
-fn make_server<'n, 'f, 'r>(
+fn make_server<'n, 'f, 'r, 'd>(
     teller: Teller<'_, '_>,
     words: &ServeWords<'_>,
-    keeper: Keeper,
+    keeper: Keeper<'d>,
     outputs: Outputs<'n, 'f, 'r>,
-) -> Result<Stores<'n, 'f, 'r>, Fault> {
+) -> Result<Stores<'n, 'f, 'r, 'd>, Fault> {
     let made = server_on(
         teller.rt.alloc(),
         keeper,
@@ -186,35 +260,69 @@ fn tell_end(teller: Teller<'_, '_>, dir: &str, end: ServeEnd, disk: &FolderDisk<
     }
 }
 
-// Collects until the source ends.
-fn collect(
+// What a server stands on, once all of it is open.
+#[derive(Drop)]
+struct Opened<'s, 'd> {
+    source: SocketSource<'s, HostRuntime>,
+    askers: Option<Askers>,
+    keeper: Keeper<'d>,
+}
+
+// Tells how serving ended, and returns the exit status.
+fn finish(
     teller: Teller<'_, '_>,
-    words: &ServeWords<'_>,
-    source: SocketSource<'_, HostRuntime>,
-    keeper: Keeper,
+    dir: &str,
+    server: Stores<'_, '_, '_, '_>,
+    end: ServeEnd,
     outputs: Outputs<'_, '_, '_>,
-) -> Result<u8, Fault> {
-    let mut server = make_server(teller, words, keeper, outputs)?;
-    if tell_listeners(teller, words, &source).is_err() {
-        return Err(teller.out_of_memory());
-    }
-    let mut source = Flushing {
-        rt: teller.rt,
-        source,
-        outputs,
-    };
-    let mut time = ServerTime::new(teller.rt, outputs);
-    let options = serve_options(words);
-    let alloc = teller.rt.alloc();
-    teller.notes.tell_ready();
-    let end = store_keeper::serve(alloc, &mut server, &mut source, &mut time, &options);
+) -> u8 {
     teller.notes.tell_stopping();
     let status = end.status(server.counts().has_refused());
     outputs.save_last();
     let (keeper, _notes, _refused) = server.into_parts();
-    tell_note_error(teller, words.dir, keeper.disk());
-    tell_end(teller, words.dir, end, keeper.disk());
-    Ok(status)
+    tell_note_error(teller, dir, keeper.disk().disk());
+    tell_end(teller, dir, end, keeper.disk().disk());
+    status
+}
+
+// Collects until the source ends.
+fn collect<'t>(
+    teller: Teller<'t, '_>,
+    words: &ServeWords<'_>,
+    opened: Opened<'t, '_>,
+    outputs: Outputs<'_, '_, '_>,
+) -> Result<u8, Fault> {
+    let Opened {
+        source,
+        askers,
+        keeper,
+    } = opened;
+    let mut server = make_server(teller, words, keeper, outputs)?;
+    let Ok(watched) = begin_watching(teller, words, &source, askers, server.counts()) else {
+        return Err(teller.out_of_memory());
+    };
+    let mut watcher = Watcher {
+        watched: watched.as_ref(),
+    };
+    let rt = teller.rt;
+    let mut source = Flushing {
+        rt,
+        source,
+        outputs,
+        watcher,
+    };
+    let mut time = ServerTime::new(rt, outputs);
+    let options = serve_options(words);
+    teller.notes.tell_ready();
+    let end = store_keeper::serve(
+        rt.alloc(),
+        &mut server,
+        &mut source,
+        &mut time,
+        &mut watcher,
+        &options,
+    );
+    Ok(finish(teller, words.dir, server, end, outputs))
 }
 
 // Opens what is asked for, and collects.
@@ -225,13 +333,16 @@ fn run(teller: Teller<'_, '_>, words: &ServeWords<'_>) -> Result<u8, Fault> {
             "a copy that was not finished: remove it, and copy again",
         ));
     }
-    let source = open_sockets(teller, words)?;
-    let keeper = open_store(teller, words.dir)?;
+    let opened = Opened {
+        source: open_sockets(teller, words)?,
+        askers: open_askers(teller, words)?,
+        keeper: open_store(teller, words.dir)?,
+    };
     let file = RefCell::new(open_refused(teller, words.dir)?);
     let notes = teller.notes;
     let refused = SharedRefused { file: &file };
     let outputs = Outputs { notes, refused };
-    collect(teller, words, source, keeper, outputs)
+    collect(teller, words, opened, outputs)
 }
 
 /// Collects from sockets into a store until it is stopped, or until standard input ends if that is

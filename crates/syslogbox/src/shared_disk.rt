@@ -3,8 +3,10 @@
 ghost use Rattle.std.specs.Prelude.{◌≡◌, ◌≤◌, IfOk, IsErr, IsTrue};
 ghost use Rattle.folder_disk.specs.Folders.{untold};
 
+use crate::ledgers::SystemTurns;
 use disk::{Disk, DiskFault, FileName};
 use folder_disk::{FileError, FolderDisk, FolderFault, FolderLock, LockFault, LockFile};
+use ledger_disk::{LedgerDisk, Purpose};
 use libc::net::poll;
 use std::alloc::Global;
 use std::os::unix::fs::MetadataExt;
@@ -33,7 +35,7 @@ pub struct SharedDisk<'d> {
     dir: &'d str,
     // which folder it is, as the system tells
     folder: Option<(u64, u64)>,
-    turn: Option<FolderDisk<HostRuntime>>,
+    turn: Option<LedgerDisk<FolderDisk<HostRuntime>, SystemTurns<'d>>>,
     refused: Option<NoTurn>,
     has_failed: bool,
 }
@@ -91,20 +93,27 @@ impl<'d> SharedDisk<'d> {
     /// Why a call last failed, as the system told it, if one did.
     pub fn last_error(&self) -> Option<&FileError> {
         match &self.turn {
-            Some(disk) => disk.last_error(),
+            Some(disk) => disk.disk().last_error(),
             None => None,
         }
     }
 
     // The disk of the folder, whose lock is held.
-    fn opened(&self) -> Result<FolderDisk<HostRuntime>, NoTurn> {
+    fn opened(&self) -> Result<LedgerDisk<FolderDisk<HostRuntime>, SystemTurns<'d>>, NoTurn> {
         let mut disk = FolderDisk::open(self.rt, self.dir).map_err(NoTurn::Folder)?;
         disk.hold(take_lock(self.rt, self.dir).map_err(NoTurn::Lock)?);
         if folder_at(self.rt, self.dir) != self.folder {
             let error = io::Error::other("it was moved or removed");
             return Err(NoTurn::Folder(FolderFault::System(error)));
         }
-        Ok(disk)
+        let turns = SystemTurns::new(self.rt, self.dir);
+        match LedgerDisk::new(self.rt.alloc(), disk, turns, Purpose::Serve) {
+            Ok(disk) => Ok(disk),
+            Err(_) => {
+                let error = io::Error::from(io::ErrorKind::OutOfMemory);
+                Err(NoTurn::Folder(FolderFault::System(error)))
+            }
+        }
     }
 
     // Begins a turn, if none is on.

@@ -1,15 +1,19 @@
-//! `read`, `verify`, `stat`, `compact` and `expire`, over a folder of the system.
+//! `read`, `verify`, `stat`, `compact`, `expire` and `seal`, over a folder of the system.
 
 use crate::ago::days_ago;
 use crate::colors;
 use crate::copies::report_unfinished;
+use crate::ledgers::{LookPause, SystemTurns, report_line, report_list_fault, report_turn_fault};
 use crate::meter::{ClearedWriter, Meter, SharedMeter};
 use crate::metered_store::{MeteredStore, store_octets};
 use archive_sets::Conditions;
 use command_line::{ColorWhen, ExpireBound, ExpireWords, ReadWords};
 use disk::DiskFault;
-use driver::{DONE, FAULT, NO_MEMORY, report};
+use driver::{DONE, FAULT, NO_MEMORY, REFUSED, report};
 use folder_disk::{FileError, FolderLock, LockFault, LockFile};
+use ledger::ChainHead;
+use ledger_disk::{LedgerDisk, Purpose};
+use ledger_engine::{seal_days, verify_ledger};
 use octet_devices::{Output, ToWrite};
 use read_engine::{ReadForm, ReadOptions, read_records};
 use std::alloc::Global;
@@ -103,8 +107,15 @@ fn cleared_errors<'m, 'r>(
     ToWrite::new(ClearedWriter { writer, meter })
 }
 
-// Writes a line for each file of a store that is damaged; a meter counts the octets of all of them.
-fn verify_metered(rt: &HostRuntime, alloc: Global, dir: &str, meter: SharedMeter<'_, '_>) -> u8 {
+// Writes a line for each file of a store that is damaged, and then on what is wrong with its ledger; a meter counts
+// the octets of all files.
+fn verify_metered(
+    rt: &HostRuntime,
+    alloc: Global,
+    dir: &str,
+    against: Option<&[u8]>,
+    meter: SharedMeter<'_, '_>,
+) -> u8 {
     let mut output = cleared_output(rt, meter);
     let mut diagnostics = cleared_errors(rt, meter);
     let store = match SystemFolder::open(rt, dir) {
@@ -113,20 +124,45 @@ fn verify_metered(rt: &HostRuntime, alloc: Global, dir: &str, meter: SharedMeter
     };
     let mut folder = MeteredStore { store, meter };
     let status = verify_store(alloc, &mut folder, &mut output, &mut diagnostics);
+    let status = match status {
+        DONE | REFUSED => verify_ledger(
+            alloc,
+            &mut folder.store,
+            against,
+            status,
+            &mut LookPause,
+            &mut output,
+            &mut diagnostics,
+        ),
+        status => status,
+    };
     meter.clear();
     let status = report_unfinished(rt, alloc, dir, status, &mut output);
     explained(alloc, dir, &folder.store, status, &mut diagnostics)
 }
 
-/// Writes a line for each file of a store that is damaged. Returns the exit status: 0 if none is, 1
-/// if one is, else that of a fault.
-pub fn verify(rt: &HostRuntime, alloc: Global, dir: &str, is_quiet: bool) -> u8 {
+/// Writes a line for each file of a store that is damaged, missing, not listed by its ledger or no file of a store, and on
+/// its ledger where that is damaged or lacks a line. Returns the exit status: 0 if nothing is wrong, 1 if something is,
+/// else that of a fault.
+pub fn verify(
+    rt: &HostRuntime,
+    alloc: Global,
+    dir: &str,
+    against: Option<&str>,
+    is_quiet: bool,
+) -> u8 {
+    let against = against.map(|line| line.as_bytes());
+    if against.is_some_and(|line| ChainHead::behind(line).is_none()) {
+        let line =
+            b"error: invalid value for --against: expected a line of a ledger, as seal prints it\n";
+        return report(&mut ToWrite::new(rt.stderr()), line, FAULT);
+    }
     let meter = Meter::of_files(rt, is_quiet);
     let shared = SharedMeter::new(meter.as_ref());
     if meter.is_some() {
         shared.expect_more(store_octets(rt, dir));
     }
-    verify_metered(rt, alloc, dir, shared)
+    verify_metered(rt, alloc, dir, against, shared)
 }
 
 /// Writes a line for each file of a store, with what it has, and one for all of them. Returns the exit
@@ -214,6 +250,7 @@ pub fn report_lock_fault<N: Output>(
     let held = match lock {
         LockFile::Compaction => "another process compacts or expires the store",
         LockFile::Writing | LockFile::Addition => "another process adds to the store",
+        LockFile::Ledger => "another process writes into the ledger",
     };
     match fault {
         LockFault::Held => report_why(alloc, what, held, diagnostics),
@@ -223,6 +260,12 @@ pub fn report_lock_fault<N: Output>(
         LockFault::Failed(error) => report_why(alloc, what, error.error, diagnostics),
     }
 }
+
+// The disk of a store whose segments are joined or removed, whose ledger takes what is done.
+type ListedStore<'m, 'r, 'd> = LedgerDisk<
+    MeteredStore<'m, 'r, SystemDisk<HostRuntime>>,
+    SystemTurns<'d>,
+>;
 
 // Opens a store whose segments are joined or removed, of whose files a meter counts what is read, and locks
 // it against others who do; or reports why that is not done, and gives the exit status.
@@ -245,10 +288,53 @@ fn open_locked<'m, 'r, N: Output>(
     Ok(MeteredStore { store: disk, meter })
 }
 
+// The same; its ledger lists the segments that are there then, unless nothing is to be changed.
+fn open_listed<'m, 'r, 'd, N: Output>(
+    rt: &'d HostRuntime,
+    alloc: Global,
+    dir: &'d str,
+    purpose: Option<Purpose>,
+    meter: SharedMeter<'m, 'r>,
+    diagnostics: &mut N,
+) -> Result<ListedStore<'m, 'r, 'd>, u8> {
+    let disk = open_locked(rt, alloc, dir, meter, diagnostics)?;
+    let turns = SystemTurns::new(rt, dir);
+    let Ok(mut disk) = LedgerDisk::new(alloc, disk, turns, purpose.unwrap_or(Purpose::Expire))
+    else {
+        return Err(report(diagnostics, b"want of memory\n", NO_MEMORY));
+    };
+    if purpose.is_none() {
+        return Ok(disk);
+    }
+    match disk.catch_up() {
+        Ok(()) => Ok(disk),
+        Err(fault) => {
+            let error = disk.disk().store.last_error();
+            Err(report_list_fault(alloc, fault, disk.turns(), error, diagnostics))
+        }
+    }
+}
+
+// Reports why segments were not joined or sealed, by why the lock of the ledger was not taken if that is why, and
+// returns the exit status.
+fn report_listed_fault<N: Output>(
+    alloc: Global,
+    disk: &ListedStore<'_, '_, '_>,
+    dir: &str,
+    fault: CompactFault,
+    diagnostics: &mut N,
+) -> u8 {
+    match report_turn_fault(alloc, disk.turns(), diagnostics) {
+        Some(status) => status,
+        None => report_change_fault(alloc, &disk.disk().store, dir, fault, diagnostics),
+    }
+}
+
 // The same as `compact`; a meter counts the octets that are read, of some files more than once.
 fn compact_metered(rt: &HostRuntime, alloc: Global, dir: &str, meter: SharedMeter<'_, '_>) -> u8 {
     let mut diagnostics = cleared_errors(rt, meter);
-    let mut disk = match open_locked(rt, alloc, dir, meter, &mut diagnostics) {
+    let purpose = Some(Purpose::Join);
+    let mut disk = match open_listed(rt, alloc, dir, purpose, meter, &mut diagnostics) {
         Ok(disk) => disk,
         Err(status) => return status,
     };
@@ -256,7 +342,7 @@ fn compact_metered(rt: &HostRuntime, alloc: Global, dir: &str, meter: SharedMete
     meter.clear();
     match compacted {
         Ok(()) => DONE,
-        Err(fault) => report_change_fault(alloc, &disk.store, dir, fault, &mut diagnostics),
+        Err(fault) => report_listed_fault(alloc, &disk, dir, fault, &mut diagnostics),
     }
 }
 
@@ -309,15 +395,19 @@ fn expire_metered(
 ) -> u8 {
     let mut output = cleared_output(rt, meter);
     let mut diagnostics = cleared_errors(rt, meter);
-    let mut disk = match open_locked(rt, alloc, dir, meter, &mut diagnostics) {
+    let purpose = (!is_dry_run).then_some(Purpose::Expire);
+    let mut disk = match open_listed(rt, alloc, dir, purpose, meter, &mut diagnostics) {
         Ok(disk) => disk,
         Err(status) => return status,
     };
     let ended = store_expiry::expire(alloc, &mut disk, expired, is_dry_run, &mut output);
     meter.clear();
-    match ended {
-        Ok(()) => DONE,
-        Err(fault) => report_expire_fault(alloc, &disk.store, dir, fault, &mut diagnostics),
+    let Err(fault) = ended else {
+        return DONE;
+    };
+    match report_turn_fault(alloc, disk.turns(), &mut diagnostics) {
+        Some(status) => status,
+        None => report_expire_fault(alloc, &disk.disk().store, dir, fault, &mut diagnostics),
     }
 }
 
@@ -339,4 +429,44 @@ pub fn expire(
     let meter = SharedMeter::new(meter.as_ref());
     meter.expect_more(None);
     expire_metered(rt, alloc, dir, expired, words.dry_run, meter)
+}
+
+// Seals the days of a store that ended by a time, and writes the last line of its ledger; a meter counts the octets that are
+// read, of some files more than once.
+fn seal_metered(
+    rt: &HostRuntime,
+    alloc: Global,
+    dir: &str,
+    before: Instant,
+    meter: SharedMeter<'_, '_>,
+) -> u8 {
+    let mut output = cleared_output(rt, meter);
+    let mut diagnostics = cleared_errors(rt, meter);
+    let purpose = Some(Purpose::Seal);
+    let mut disk = match open_listed(rt, alloc, dir, purpose, meter, &mut diagnostics) {
+        Ok(disk) => disk,
+        Err(status) => return status,
+    };
+    let sealed = seal_days(alloc, &mut disk, before);
+    meter.clear();
+    if let Err(fault) = sealed {
+        return report_listed_fault(alloc, &disk, dir, fault, &mut diagnostics);
+    }
+    match disk.last_line() {
+        Ok(line) => report_line(line, &mut output, &mut diagnostics),
+        Err(fault) => {
+            let error = disk.disk().store.last_error();
+            report_list_fault(alloc, fault, disk.turns(), error, &mut diagnostics)
+        }
+    }
+}
+
+/// Seals the days of a store that ended by a time: each is one segment then, whose root its ledger has. Writes the last line
+/// of the ledger. Returns the exit status: 0 where all of them are sealed, 1 where a segment or the ledger is damaged, else
+/// that of a fault.
+pub fn seal(rt: &HostRuntime, alloc: Global, dir: &str, before: Instant, is_quiet: bool) -> u8 {
+    let meter = Meter::of_files(rt, is_quiet);
+    let meter = SharedMeter::new(meter.as_ref());
+    meter.expect_more(None);
+    seal_metered(rt, alloc, dir, before, meter)
 }

@@ -70,24 +70,28 @@ fn a_union_is_made_of_up_to_512_files(rt: HostRuntime) -> Result<(), Fail> {
     refuses_all(&rt, &[&words, &["union"], &["union", "a", "--trim"]])
 }
 
-// the period of `digest`
-fn period(rt: &HostRuntime, words: &[&str]) -> Option<Period> {
+// the period of `digest`, and whether it has roots
+fn period(rt: &HostRuntime, words: &[&str]) -> Option<(Period, bool)> {
     match asked(rt, words) {
-        Ok(Request::Digest { period }) => Some(period),
+        Ok(Request::Digest { period, has_roots }) => Some((period, has_roots)),
         _ => None,
     }
 }
 
 #[test]
 fn digest_takes_a_period(rt: HostRuntime) -> Result<(), Fail> {
-    let rows: [(&[&str], Period); 4] = [
-        (&["digest"], Period::Day),
-        (&["digest", "--by", "day"], Period::Day),
-        (&["digest", "--by=month"], Period::Month),
-        (&["digest", "--by", "hour"], Period::Hour),
+    let rows: [(&[&str], Period, bool); 5] = [
+        (&["digest"], Period::Day, false),
+        (&["digest", "--by", "day"], Period::Day, false),
+        (&["digest", "--by=month"], Period::Month, false),
+        (&["digest", "--by", "hour"], Period::Hour, false),
+        (&["digest", "--root", "--by", "hour"], Period::Hour, true),
     ];
-    for (words, expected) in rows {
-        assert!(rt; period(&rt, words) == Some(expected), "{words:?}");
+    for (words, expected, has_roots) in rows {
+        assert!(rt;
+            period(&rt, words) == Some((expected, has_roots)),
+            "{words:?}"
+        );
     }
     refuses_all(
         &rt,
@@ -99,6 +103,7 @@ fn digest_takes_a_period(rt: HostRuntime) -> Result<(), Fail> {
             &["digest", "--by", "year"],
             &["digest", "--by=day", "--by=day"],
             &["digest", "day"],
+            &["digest", "--root", "--root"],
         ],
     )
 }

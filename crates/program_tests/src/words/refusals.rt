@@ -13,8 +13,8 @@ fn tells(rt: &HostRuntime, words: &[&str], text: &str) -> bool {
 
 #[test]
 fn the_version_is_a_text(rt: HostRuntime) {
-    assert!(rt; tells(&rt, &["--version"], "syslogbox 0.12.0\n"));
-    assert!(rt; tells(&rt, &["-V"], "syslogbox 0.12.0\n"));
+    assert!(rt; tells(&rt, &["--version"], "syslogbox 0.13.0\n"));
+    assert!(rt; tells(&rt, &["-V"], "syslogbox 0.13.0\n"));
 }
 
 // whether a text that holds this is told, since the words ask for it
@@ -29,8 +29,8 @@ fn helps(rt: &HostRuntime, words: &[&str], part: &str) -> bool {
 fn a_command_has_help_and_the_version(rt: HostRuntime) {
     assert!(rt; helps(&rt, &["check", "--help"], "--summary"));
     assert!(rt; helps(&rt, &["check", "--summary", "-h"], "--summary"));
-    assert!(rt; helps(&rt, &["serve", "--version"], "0.12.0\n"));
-    assert!(rt; helps(&rt, &["root", "-V"], "0.12.0\n"));
+    assert!(rt; helps(&rt, &["serve", "--version"], "0.13.0\n"));
+    assert!(rt; helps(&rt, &["root", "-V"], "0.13.0\n"));
     let rows: [&[&str]; 5] = [
         &["--help"],
         &["-h"],
@@ -108,7 +108,8 @@ const REFUSED_FRAMES: [(&[&str], &str); 9] = [
     ),
 ];
 
-const REFUSED_TIMES: [(&[&str], &str); 7] = [
+const REFUSED_TIMES: [(&[&str], &str); 8] = [
+    (&["seal", "d"], "error: seal needs a time: --before\n"),
     (
         &["select", "--to=-", "--facility=x"],
         "error: invalid value '-' for --to: expected a time in the years 0 to 9999 of UTC, such \
@@ -187,7 +188,7 @@ const REFUSED_CONDITIONS: [(&[&str], &str); 7] = [
     ),
 ];
 
-const REFUSED_SOCKETS: [(&[&str], &str); 16] = [
+const REFUSED_SOCKETS: [(&[&str], &str); 17] = [
     (
         &["collect", "tcp", "0", "0"],
         "error: invalid value 'tcp' for TRANSPORT: expected udp, counted or lf\n",
@@ -258,6 +259,11 @@ const REFUSED_SOCKETS: [(&[&str], &str); 16] = [
     (
         &["serve", "d", "--unix=p", "--dialect=x", "--checkpoint=2049"],
         "error: invalid value '2049' for --checkpoint: expected a number from 1 to 2048\n",
+    ),
+    (
+        &["serve", "d", "--unix=p", "--metrics=localhost:9514"],
+        "error: invalid value 'localhost:9514' for --metrics: expected an address and a port, such as \
+        127.0.0.1:514 or [::1]:514\n",
     ),
     (
         &["serve", "d", "--per-peer=20", "--connections=10"],

@@ -108,6 +108,7 @@ fn serve_has_limits(rt: HostRuntime) -> Result<(), Fail> {
         idle_seconds: None,
         commit_millis: 1000,
         checkpoint_mib: 64,
+        metrics: None,
         until_eof: false,
         reading: FrameReading::from(None),
     };
@@ -117,6 +118,7 @@ fn serve_has_limits(rt: HostRuntime) -> Result<(), Fail> {
     options.idle_seconds = Some(1);
     options.commit_millis = 0;
     options.checkpoint_mib = 1;
+    options.metrics = SocketAddr::from_str("[::1]:9514").ok();
     options.until_eof = true;
     options.reading.trim = true;
     options.reading.clock = LegacyClock::new(2001, 0);
@@ -129,6 +131,7 @@ fn serve_has_limits(rt: HostRuntime) -> Result<(), Fail> {
         "--idle=1",
         "--commit=0",
         "--checkpoint=1",
+        "--metrics=[::1]:9514",
         "--until-eof",
         "--trim",
         "--legacy=2001",
@@ -145,6 +148,8 @@ fn serve_has_limits(rt: HostRuntime) -> Result<(), Fail> {
         "--commit=3600001",
         "--checkpoint=0",
         "--checkpoint=2049",
+        "--metrics=9514",
+        "--metrics=",
         "--until-eof=true",
         "--dialect=x",
         "--summary",

@@ -24,14 +24,61 @@ fn the_files_of_a_store_are_listed(rt: HostRuntime) -> Result<(), Fail> {
 
 #[test]
 fn a_store_is_verified(rt: HostRuntime) -> Result<(), Fail> {
-    let asked = asked(&rt, &["verify", "--", "-d"]);
-    assert!(rt; matches!(asked, Ok(Request::Verify { dir: "-d" })));
+    let plain = asked(&rt, &["verify", "--", "-d"]);
+    assert!(rt;
+        matches!(
+            plain,
+            Ok(Request::Verify {
+                dir: "-d",
+                against: None
+            })
+        )
+    );
+    let against = asked(&rt, &["verify", "d", "--against", "1 a line"]);
+    assert!(rt;
+        matches!(
+            against,
+            Ok(Request::Verify {
+                dir: "d",
+                against: Some("1 a line")
+            })
+        )
+    );
     refuses_all(
         &rt,
         &[
             &["verify"],
             &["verify", "d", "e"],
             &["verify", "d", "--undated"],
+            &["verify", "d", "--against"],
+            &["verify", "d", "--against", "a", "--against", "b"],
+        ],
+    )
+}
+
+// whether `seal` with these words takes the folder `d` and this time
+fn seals(rt: &HostRuntime, words: &[&str], time: Instant) -> bool {
+    match &asked(rt, words) {
+        Ok(Request::Seal { dir, before }) => *dir == "d" && *before == time,
+        _ => false,
+    }
+}
+
+#[test]
+fn days_are_sealed(rt: HostRuntime) -> Result<(), Fail> {
+    let Some(then) = Instant::from_micros(1_795_600_800_000_000) else {
+        return Ok(());
+    };
+    let words = ["seal", "d", "--before", "2026-11-25T10:00:00Z"];
+    assert!(rt; seals(&rt, &words, then));
+    refuses_all(
+        &rt,
+        &[
+            &["seal"],
+            &["seal", "d"],
+            &["seal", "d", "--before", "-"],
+            &["seal", "d", "--keep", "90"],
+            &["seal", "d", "--before", "2026-11-25", "--undated"],
         ],
     )
 }

@@ -21,7 +21,7 @@ pub returns-in-Select-clause-unread : goal.returns-in-Select-clause-unread
 returns-in-Select-clause-unread g c = λ no. absurd (no (rw c.in-Select.is tt))
 
 pub returns-in-Digest-clause-ran : goal.returns-in-Digest-clause-ran
-returns-in-Digest-clause-ran g c = rw c.in-Digest.is c.digest_archive.ensures
+returns-in-Digest-clause-ran g c = rw c.in-Digest.is c.run_digest.ensures
 
 pub returns-in-Count-clause-ran : goal.returns-in-Count-clause-ran
 returns-in-Count-clause-ran g c =

@@ -1,31 +1,24 @@
-use Rattle.std.proofs.Common.{◌<◌, ◌^◌, length, arith}
-use Rattle.archive_tree.specs.Archives.{texts_of}
-use Rattle.archive_tree.proofs.Archives.{count_of_texts}
-use Rattle.archive_streams.proofs.EntrySteps.{begun_whole}
-use Rattle.proof_engine.proofs.Steps.{few_read}
 use Rattle.proof_engine.proofs.root.root_stream.Goals as goal
 
 pub returns-in-Ok-put_head-clause-outcome : goal.returns-in-Ok-put_head-clause-outcome
 returns-in-Ok-put_head-clause-outcome g c =
-    let w = c.in-Ok-read_all.ensures.outcome in
-    let few : length w.xs < 2 ^ 63 = few_read _ _ w.xs (begun_whole _ _ w.xs w.whole) in
+    let w = c.in-Ok.ensures.outcome in
     record {
       xs = w.xs;
-      head = c.finish.result;
+      head = c.in-Ok.head;
       whole = w.whole;
-      root = c.finish.ensures.taken (texts_of w.xs) (omega (arith, few, count_of_texts w.xs)) w.taken;
+      root = w.root;
       written = c.in-Ok-put_head.ensures.octets;
     }
 
-pub returns-in-Ok-read_all-clause-outcome : goal.returns-in-Ok-read_all-clause-outcome
-returns-in-Ok-read_all-clause-outcome g c =
-    let w = c.in-Ok-read_all.ensures.outcome in
-    let few : length w.xs < 2 ^ 63 = few_read _ _ w.xs (begun_whole _ _ w.xs w.whole) in
+pub returns-in-Err-put_head-clause-outcome : goal.returns-in-Err-put_head-clause-outcome
+returns-in-Err-put_head-clause-outcome g c =
+    let w = c.in-Ok.ensures.outcome in
     record {
       xs = w.xs;
-      head = c.finish.result;
+      head = c.in-Ok.head;
       whole = w.whole;
-      root = c.finish.ensures.taken (texts_of w.xs) (omega (arith, few, count_of_texts w.xs)) w.taken;
+      root = w.root;
       some_left = c.in-Err-put_head.ensures.some_left;
       written = c.in-Err-put_head.ensures.octets;
     }

@@ -37,19 +37,19 @@ returns-then-len-le-SEGMENTS_MAX-clause-few g c t on other text named =
 pub returns-clause-goes_on : goal.returns-clause-goes_on
 returns-clause-goes_on g c t on =
     goes_on SEGMENTS_MAX (g.D.Disk.state c.args.disk.now) (g.D.Disk.state c.compact_day.new.disk) c.in-Some.period
-    (c.in_ok-compact_day.ensures.few t on.sound) (c.compact_day.ensures.others t) c.args.names.now c.args.last on
+    (c.in_ok-compact_day.ensures.few t on.sound (omega arith)) (c.compact_day.ensures.others t) c.args.names.now c.args.last on
     (c.in_ok-compact_day.ensures.sound t on.sound)
 
 pub returns-clause-few : goal.returns-clause-few
 returns-clause-few g c t on other text named =
     let segment = subst (IsSegment c.in-Some.period) c.as_octets.ensures.value c.in-Some.ensures.some.1 in
     few_named SEGMENTS_MAX (g.D.Disk.state c.compact_day.new.disk) c.in-Some.period other c.args.name.now
-    (c.in_ok-compact_day.ensures.few t on.sound) segment named
+    (c.in_ok-compact_day.ensures.few t on.sound (omega arith)) segment named
 
 pub returns-clause-still : goal.returns-clause-still
 returns-clause-still g c t on other h =
     few_still SEGMENTS_MAX (g.D.Disk.state c.args.disk.now) (g.D.Disk.state c.compact_day.new.disk) c.in-Some.period
-    (c.in_ok-compact_day.ensures.few t on.sound) (c.compact_day.ensures.others t) other h
+    (c.in_ok-compact_day.ensures.few t on.sound (omega arith)) (c.compact_day.ensures.others t) other h
 
 pub returns-in_err-compact_day-clause-others : goal.returns-in_err-compact_day-clause-others
 returns-in_err-compact_day-clause-others g c t =

@@ -1,9 +1,8 @@
-use Rattle.std.proofs.Common.{arith, inr, ◌∙◌}
+use Rattle.std.proofs.Common.{inr, ◌∙◌}
 use Rattle.store_upkeep.proofs.DaysKept.{aside_apart, aside_unless, few_four, placed_apart, placed_three}
 use Rattle.store_upkeep.proofs.DaysKept.{removed_apart, removed_four, sound_three, then_apart, unchanged_apart}
 use Rattle.store_upkeep.proofs.DaysKept.{whole_day}
 use Rattle.store_upkeep.proofs.SameSets.{aside_set, then_set, unchanged_set}
-use Rattle.store_upkeep.specs.declared.compaction.TheConstants.{SEGMENTS_MAX}
 use Rattle.store_upkeep.proofs.compaction.join_day.Goals as goal
 
 pub returns-in_err-join_segments-clause-set : goal.returns-in_err-join_segments-clause-set
@@ -105,7 +104,7 @@ returns-in_err-remove_joined-clause-others g c t names found =
     (removed_apart three four day names c.args.segments.now found (c.remove_joined.ensures.others t))
 
 pub returns-clause-few : goal.returns-clause-few
-returns-clause-few g c t sound names listed found =
+returns-clause-few g c t sound names listed found most enough =
     let zero = g.D.Disk.state c.args.disk.now in
     let one = g.D.Disk.state c.join_segments.new.disk in
     let two = g.D.Disk.state c.name_of_draft.new.disk in
@@ -120,7 +119,7 @@ returns-clause-few g c t sound names listed found =
     (c.name_of_draft.ensures.same t_two) listed found c.in_ok-joined.ensures.segment
     (c.in_ok-joined.ensures.name t_two j.draft_is.sound) (c.place.ensures.set t_three)
     (c.place.ensures.others t_three) (c.in_default.ensures.placed t_three) four (c.remove_joined.ensures.less t)
-    (c.in_ok-remove_joined.ensures.gone t) SEGMENTS_MAX (omega arith)
+    (c.in_ok-remove_joined.ensures.gone t) most enough
 
 pub returns-clause-sound : goal.returns-clause-sound
 returns-clause-sound g c t sound names listed found =

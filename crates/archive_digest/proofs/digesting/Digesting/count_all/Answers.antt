@@ -10,7 +10,7 @@ entries-init g c = record {
   unclosed = c.requires.unclosed;
   reader = refl;
   writer = refl;
-  running = running_none _ c.args.self.now _ _ c.requires;
+  running = running_none _ _ c.args.self.now _ _ c.requires;
 }
 
 pub entries-preserved : goal.entries-preserved
@@ -21,7 +21,7 @@ entries-preserved g c =
       unclosed = subst IsOpen (sym c.count.ensures.entries) one.open_after;
       reader = c.in_ok-advance.ensures.told ∙ c.entries.invariant.reader;
       writer = c.in_ok-count.ensures.told ∙ c.entries.invariant.writer;
-      running = c.in_ok-count.ensures.counts _ _ _ (looks _ c.entries.self c.advance.new.self _ _ _ _ _
+      running = c.in_ok-count.ensures.counts _ _ _ _ (looks _ _ c.entries.self c.advance.new.self _ _ _ _ _
           c.advance.ensures.kept one c.entries.invariant.running);
     }
 
@@ -35,7 +35,7 @@ entries-smaller g c =
 pub returns-in_err-advance-clause-outcome : goal.returns-in_err-advance-clause-outcome
 returns-in_err-advance-clause-outcome g c =
     let p = err_from_is_err_and c.from_residual.result c.from_residual.ensures.1 in
-    rw (p.1, p.2) (halts _ c.in_err-advance.field-0.0 c.entries.self c.advance.new.self _ _ _ _ _ c.advance.ensures.kept
+    rw (p.1, p.2) (halts _ _ c.in_err-advance.field-0.0 c.entries.self c.advance.new.self _ _ _ _ _ c.advance.ensures.kept
     c.in_err-advance.ensures.fault c.entries.invariant.running)
 
 pub returns-in_err-count-clause-outcome : goal.returns-in_err-count-clause-outcome
@@ -43,5 +43,5 @@ returns-in_err-count-clause-outcome g c =
     let on : IsTrue c.in_ok-advance.field-0 = search rules in
     let one = c.in_ok-advance.ensures.entry on in
     let p = err_from_is_err_and c.from_residual-in_err-count.result c.from_residual-in_err-count.ensures.1 in
-    rw (p.1, p.2) (c.in_err-count.ensures.fault _ _ _ (looks _ c.entries.self c.advance.new.self _ _ _ _ _
+    rw (p.1, p.2) (c.in_err-count.ensures.fault _ _ _ _ (looks _ _ c.entries.self c.advance.new.self _ _ _ _ _
     c.advance.ensures.kept one c.entries.invariant.running))

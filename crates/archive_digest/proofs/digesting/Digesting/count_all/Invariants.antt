@@ -8,7 +8,7 @@ invariant-entries g l = record {
   unclosed : IsOpen l.self.entries;
   reader : (g.R.Input.state l.reader).failures ≡ (g.R.Input.state l.fn.reader).failures;
   writer : (g.W.Output.state l.writer).failures ≡ (g.W.Output.state l.fn.writer).failures;
-  running : Running l.period l.self (g.R.Input.state l.fn.reader) (g.R.Input.state l.reader)
+  running : Running l.fn.self.tally.roots l.period l.self (g.R.Input.state l.fn.reader) (g.R.Input.state l.reader)
       (g.W.Output.state l.fn.writer).taken (g.W.Output.state l.writer).taken;
 }
 

@@ -6,8 +6,9 @@ use Rattle.serve_engine.specs.Events.{manner_of}
 use Rattle.serve_engine.specs.Intakes.{StandsBy}
 use Rattle.serve_engine.specs.Keepings.{Kept}
 use Rattle.serve_engine.specs.Notes.{TellTurns, Telling}
-use Rattle.serve_engine.specs.Servers.{LeadsFrom, SyncsFrom, place_of, told_of}
+use Rattle.serve_engine.specs.Servers.{LeadsFrom, SyncsFrom, counts_of, is_full, place_of, told_of}
 use Rattle.serve_engine.proofs.Rounds.{SoFar}
+use Rattle.serve_engine.proofs.Watched.{WatchedAfter}
 use Rattle.serve_engine.proofs.server.Server.serve.Given as goal
 
 -- so far the steps that came were served, and the run has not ended
@@ -31,4 +32,5 @@ invariant-loop-turn g l = record {
   syncs : SyncsFrom (g.S.Store.entries) (g.K.Keeping.stands) (g.K.Keeping.syncs) (g.K.Keeping.most_syncs)
       (place_of (g.R.Output.state) (g.K.Keeping.short) l.fn.self (g.Q.ServerSource.state l.fn.source))
       (place_of (g.R.Output.state) (g.K.Keeping.short) l.self (g.Q.ServerSource.state l.source));
+  watched : WatchedAfter (g.W.Watch.sees) l._turn l.fn.watch l.watch (counts_of l.self) (is_full l.self);
 }

@@ -1,0 +1,9 @@
+pub mod BodyLemmas
+pub mod HeadLemmas
+pub mod LawLemmas
+pub mod MeetingLemmas
+pub mod ReadingLemmas
+pub mod SayingLemmas
+pub mod SealLemmas
+pub mod StandingLemmas
+pub mod WordLemmas

@@ -1,0 +1,6 @@
+pub mod Chains
+pub mod Laws
+pub mod Lines
+pub mod Readings
+pub mod Standings
+pub mod Words

@@ -1,0 +1,4 @@
+pub mod Behind
+pub mod Gone
+pub mod Lines
+pub mod Tails

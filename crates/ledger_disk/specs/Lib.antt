@@ -1,0 +1,4 @@
+pub mod Below
+pub mod Disks
+pub mod Ends
+pub mod Ledgers

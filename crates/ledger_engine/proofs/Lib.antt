@@ -1,0 +1,4 @@
+pub mod Comparing
+pub mod Founding
+pub mod Rooted
+pub mod Sealed
