@@ -5,11 +5,10 @@ from datetime import date, timedelta
 from hashlib import sha256
 from pathlib import Path
 
-from lib.ledger import NOTHING, chained
 from lib.reference import archive_text, counted
 from lib.server import SOON, Runs, any_port, until
 
-DAYS, UNLISTED, IN_TIME = 20_000, 2_000, 10
+DAYS, IN_TIME = 20_000, 10
 FIRST = date(1980, 1, 1)
 
 
@@ -115,34 +114,11 @@ def mixed(runs):
 
 # ---------------------------------------------------------------- very many days
 
-def listed_all(store):
-    """Writes the ledger of a store, which lists each of its segments."""
-    chain, lines = NOTHING, []
-    for number, path in enumerate(sorted(Path(store).glob("*.archive")), 1):
-        front = b"%d 2026-12-01T00:00:00.000000Z add %b 1 %d" % (number, path.name.encode(), path.stat().st_size)
-        chain = chained(chain, front)
-        lines.append(front + b" " + chain + b"\n")
-    (Path(store) / "ledger").write_bytes(b"".join(lines))
-
-
-def many_unlisted(runs):
-    """A store from before, whose ledger begins with so many lines."""
-    store, _ = made(runs)
-    for n in range(UNLISTED):
-        segment(store, FIRST + timedelta(days=n), [dated(FIRST + timedelta(days=n), b"x")])
-    begun = time.monotonic()
-    runs.results.same(f"{UNLISTED} days without a ledger", runs.program.run(["compact", str(store)]), (0, b"", b""))
-    seconds = time.monotonic() - begun
-    runs.results.check(f"{UNLISTED} days without a ledger in time", seconds < IN_TIME, f"{seconds:.1f} s")
-    runs.results.same("then all are listed", runs.program.run(["verify", str(store)]), (0, b"", b""))
-
-
 def very_many(runs):
-    """Segments of 20,000 days, which a ledger lists, are read, verified and compacted in some seconds."""
+    """Segments of 20,000 days, none of which a ledger lists, are read, verified and compacted in some seconds."""
     store, _ = made(runs)
     for n in range(DAYS):
         segment(store, FIRST + timedelta(days=n), [dated(FIRST + timedelta(days=n), b"x")])
-    listed_all(store)
     right = archive_text([dated(FIRST + timedelta(days=n), b"x") for n in range(DAYS)])
     for name, right in ("read", right), ("compact", b""), ("verify", b""):
         begun = time.monotonic()
@@ -157,5 +133,4 @@ def damaged_segments(program, results):
         runs = Runs(program, results, path)
         each_octet(runs, "a segment", *served(runs))
         mixed(runs)
-        many_unlisted(runs)
         very_many(runs)

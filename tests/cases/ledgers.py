@@ -263,6 +263,31 @@ def is_killed(program, results, path):
         ledgers.is_listed(f"caught up {round_} times")
 
 
+def is_sealed_whole(ledgers, line):
+    """A run of `seal` that comes to its end seals what killed ones left, and the first seal still stands."""
+    results = ledgers.results
+    status, output, notes = ledgers.run("seal", "--before", "2026-11-13")
+    results.check("then all days are sealed", (status, notes) == (0, b""), f"{status} {output} {notes}")
+    results.same("each day has a seal", len(sealed(ledgers.lines())), 12)
+    results.same("the first seal still stands", ledgers.run("verify", "--against", line), (0, b"", b""))
+    ledgers.is_listed("killed while days are sealed")
+
+
+def kills_sealing(ledgers, line, seconds, random):
+    """Some runs of `seal` are killed within so many seconds. How many of them had not ended."""
+    kills = 0
+    for _ in range(5):
+        words = [ledgers.program.path, "seal", str(ledgers.store), "--before", "2026-11-13"]
+        with subprocess.Popen(words, stdout=subprocess.DEVNULL) as one:
+            time.sleep(random.uniform(0, seconds))
+            one.kill()
+            kills += one.wait() != 0
+        status, output, notes = ledgers.run("verify", "--against", line)
+        right = status in (0, 1) and not notes and all(told.endswith(b" unlisted") for told in output.splitlines())
+        ledgers.results.check("killed while days are sealed", right, f"{status} {output} {notes}")
+    return kills
+
+
 def is_killed_sealing(program, results, path):
     """A run of `seal` that is killed leaves segments that are not listed at most; what it sealed stays sealed, and the next
     run seals the rest."""
@@ -271,20 +296,17 @@ def is_killed_sealing(program, results, path):
         ledgers.add([one for day in range(1, 13) for one in of_day(day, 100 * part, 3)])
     ledgers.run("seal", "--before", "2026-11-02")
     line, kills = ledgers.lines()[-1].decode(), 0
-    for _ in range(60):
-        with subprocess.Popen([program.path, "seal", str(ledgers.store), "--before", "2026-11-13"], stdout=subprocess.DEVNULL) as one:
-            time.sleep(random.uniform(0, 0.01))
-            one.kill()
-            kills += one.wait() != 0
-        status, output, notes = ledgers.run("verify", "--against", line)
-        right = status in (0, 1) and not notes and all(told.endswith(b" unlisted") for told in output.splitlines())
-        results.check("killed while days are sealed", right, f"{status} {output} {notes}")
-    results.check("some runs are killed", kills > 0, str(kills))
-    status, output, notes = ledgers.run("seal", "--before", "2026-11-13")
-    results.check("then all days are sealed", (status, notes) == (0, b""), f"{status} {output} {notes}")
-    results.same("each day has a seal", len(sealed(ledgers.lines())), 12)
-    results.same("the first seal still stands", ledgers.run("verify", "--against", line), (0, b"", b""))
-    ledgers.is_listed("killed while days are sealed")
+    for copy in range(12):
+        killed = Ledgers(program, results, Path(path) / f"sealing{copy}")
+        shutil.copytree(ledgers.store, killed.store)
+        begun = time.monotonic()
+        is_sealed_whole(killed, line)
+        seconds = time.monotonic() - begun
+        shutil.rmtree(killed.store)
+        shutil.copytree(ledgers.store, killed.store)
+        kills += kills_sealing(killed, line, seconds / 2, random)
+        is_sealed_whole(killed, line)
+    results.check("some runs are killed", kills > 5, str(kills))
 
 
 def in_turns(seconds, *jobs):
@@ -337,6 +359,23 @@ def is_refused(program, results, path):
     ledgers.is_listed("with its lock")
 
 
+def is_broken_beside_a_server(program, results, path):
+    """A server that cannot go on with its ledger tells where that is damaged, or why its lock was not taken."""
+    for name, told in ("ledger", b"damaged at octet 0"), ("lock.ledger", b"Is a directory"):
+        ledgers = Ledgers(program, results, Path(path) / f"beside {name}")
+        ledgers.add(of_day(20, 0, 3))
+        if name == "ledger":
+            (ledgers.store / name).write_bytes(b"none\n")
+        else:
+            (ledgers.store / name).unlink()
+            (ledgers.store / name).mkdir()
+        with Server(program, ledgers.store, *any_port("counted"), *SOON, "--checkpoint", 1) as server:
+            server.send("counted", *(framed("counted", one) for one in records("broken", 0, 3_000, 800)))
+            results.same(f"{name}: the server ends", server.status(), 2)
+            told_of = str(ledgers.store / name).encode() + b": " + told
+            results.check(f"{name}: it is told", any(line.startswith(told_of) for line in server.lines()), str(server.lines()))
+
+
 def waits(program, results, path):
     """Whoever writes into the ledger waits for another one that does."""
     ledgers = Ledgers(program, results, Path(path) / "waits")
@@ -366,4 +405,5 @@ def ledgers(program, results):
         is_killed_sealing(program, results, path)
         is_shared(program, results, path)
         is_refused(program, results, path)
+        is_broken_beside_a_server(program, results, path)
         waits(program, results, path)

@@ -196,10 +196,9 @@ def try_allocation(runs, name, parts, words, number, finished):
         runs.results.check(f"{name}: it does not begin", not held(files_of(store)))
         return True
     right = status == status_of(lines) and all(map(TOLD.fullmatch, lines))
-    is_faulty = status == 2 and lines[:1] == [b"store fault"]  # no memory for the lock of the ledger, so it read no further
-    runs.results.check(f"{name}: its end", right or is_faulty, f"{status} {lines}")
+    runs.results.check(f"{name}: its end", right, f"{status} {lines}")
     found = held(files_of(store)) or set()
-    right = found <= sent if closed or is_faulty else found == sent
+    right = found <= sent if closed else found == sent
     runs.results.check(f"{name}: what is held", right, f"{len(found)} records of {len(sent)}, {lines}")
     runs.results.same(f"{name}: verify", runs.verify(store), (0, b"", b""))
     return bool(lines)

@@ -410,7 +410,7 @@ def compacting(folders, name, whole):
     allocations, right = made().malloc, folders.run("read", whole)
     for n in range(1, allocations + 3):
         seen = compacted(program.failing(malloc=n))
-        told = n <= allocations and (wants_memory(seen, ample) or seen[2].endswith((b"lock.ledger: out of memory\n", b".archive: the disk failed\n")))
+        told = n <= allocations and wants_memory(seen, ample)
         results.check(f"{name}: allocation {n} of {allocations}", told or seen == ample, str(seen))
         results.same(f"{name}: allocation {n}: what is read", folders.run("read", copy), right)
 

@@ -1,12 +1,15 @@
 -- A line continues a chain, or does not.
-use Rattle.std.proofs.Common.{◌≡◌, ℕ, zero, suc, ◌+◌, ◌^◌, ◌<◌, ◌/◌, ◌%◌, List, [], ◌∷◌, ◌++◌, length, sym, ap, ◌∙◌, arith, append_assoc, inl, inr}
+use Rattle.std.proofs.Common.{◌≡◌, ℕ, zero, suc, ◌+◌, ◌-◌, ◌^◌, ◌<◌, ◌/◌, ◌%◌, List, [], ◌∷◌, ◌++◌, length, take, drop, refl, subst, sym, ap, ◌∙◌, arith, append_assoc, inl, inr}
+use Rattle.std.proofs.Math.Seq.{drop-append_seam}
+use Rattle.std.proofs.lemmas.List.{length-drop, take_all}
 use Rattle.std.specs.Prelude.{EachIndex, slice_index}
 use Rattle.std.specs.List.{AllByRecursion}
 use Rattle.hex.specs.Hex.{IsBytes, encode_lower, encode_with, lower_digits}
 use Rattle.sha2.specs.Sha256.{sha256}
 use Rattle.ledger.specs.Chains.{Continues, EndsAt, IsNextLine}
-use Rattle.ledger.specs.Lines.{HasNumbers, IsEvent, IsLine, IsWorded, Said, HasLineNumber, IsRoot, body_text, chain_behind, said_text}
+use Rattle.ledger.specs.Lines.{HasNumbers, IsEvent, IsLine, IsWorded, Said, HasLineNumber, IsRoot, body_text, chain_behind, line_text, said_text}
 use Rattle.ledger.specs.Words.{IsHash, IsHexDigit, word_and}
+use Rattle.ledger.specs.Writing.{PutsNext}
 use Rattle.ledger.specs.declared.entry.Event.{Event}
 use Rattle.ledger.specs.declared.entry.Event.TheVariants.{Added, Joined, Gone, Sealed}
 use Rattle.ledger.specs.declared.head.ChainHead.{ChainHead}
@@ -132,15 +135,50 @@ valid_line n time s small worded numbers = record {
   };
 }
 
-pub next_is : (b : ChainHead) (time : List ℕ) (s : Said) (chain none a d e f : List ℕ) → IsLine (b.number + 1) time s
-    → none ≡ [] → a ≡ none ++ body_text (b.number + 1) time s → chain ≡ chain_behind b.chain a → d ≡ a ++ 32 ∷ []
-    → e ≡ d ++ chain → f ≡ e ++ 10 ∷ [] → IsNextLine b time s f
-next_is b time s chain none a d e f valid empty p made q r t = record {
-  valid = valid;
-  is =
-      let body = body_text (b.number + 1) time s in
-      let text : a ≡ body = p ∙ ap (λ (l : List ℕ). l ++ body) empty in
-      let right : chain ≡ chain_behind b.chain body = made ∙ ap (chain_behind b.chain) text in
-      t ∙ ap (λ (l : List ℕ). l ++ 10 ∷ []) (r ∙ ap (λ (l : List ℕ). l ++ chain) (q ∙ ap (λ (l : List ℕ). l ++ 32 ∷ []) text)
-      ∙ append_assoc body (32 ∷ []) chain ∙ ap (word_and body) right);
-}
+-- a piece behind others
+behind_is : (old a body : List ℕ) (n : ℕ) → a ≡ old ++ body → n ≡ length old → drop n a ≡ body
+behind_is old a body n is len =
+    ap (λ (k : ℕ). drop k a) len ∙ ap (λ (l : List ℕ). drop (length old) l) is ∙ drop-append_seam old body
+
+pub puts_next : (b : ChainHead) (time : List ℕ) (s : Said) (chain old a whole d e f : List ℕ) (n : ℕ)
+    → IsLine (b.number + 1) time s → a ≡ old ++ body_text (b.number + 1) time s → n ≡ length old → whole ≡ a
+    → chain ≡ chain_behind b.chain (take (length whole - n) (drop n whole))
+    → d ≡ a ++ 32 ∷ [] → e ≡ d ++ chain → f ≡ e ++ 10 ∷ []
+    → PutsNext b time s old f (record { number = b.number + 1; chain = chain })
+puts_next b time s chain old a whole d e f n valid p len same made q r t =
+    let body = body_text (b.number + 1) time s in
+    let rest : take (length whole - n) (drop n whole) ≡ drop n whole =
+    take_all (length whole - n) (drop n whole) (omega (arith, length-drop n whole)) in
+    let piece : take (length whole - n) (drop n whole) ≡ body =
+    rest ∙ ap (λ (l : List ℕ). drop n l) same ∙ behind_is old a body n p len in
+    let right : chain ≡ chain_behind b.chain body = made ∙ ap (chain_behind b.chain) piece in
+    record {
+      line = line_text b.chain (b.number + 1) time s;
+      next = record {
+        time = time;
+        next = refl;
+        valid = valid;
+        text = refl;
+        chain = right;
+      };
+      timed = refl;
+      text = t ∙ ap (λ (l : List ℕ). l ++ 10 ∷ []) (r ∙ ap (λ (l : List ℕ). l ++ chain) (q ∙ ap (λ (l : List ℕ). l ++ 32 ∷ []) p))
+          ∙ ap (λ (l : List ℕ). l ++ 10 ∷ []) (append_assoc (old ++ body) (32 ∷ []) chain
+          ∙ append_assoc old body (32 ∷ chain))
+          ∙ append_assoc old (body ++ 32 ∷ chain) (10 ∷ [])
+          ∙ ap (λ (l : List ℕ). old ++ ((body ++ 32 ∷ l) ++ 10 ∷ [])) right;
+    }
+
+-- what is put behind nothing is the line
+pub next_is : (b : ChainHead) (time : List ℕ) (s : Said) (none text : List ℕ) (behind : ChainHead) → none ≡ []
+    → PutsNext b time s none text behind → IsNextLine b time s text
+next_is b time s none text behind empty p =
+    let valid : IsLine (b.number + 1) time s =
+    subst (λ (n : ℕ). IsLine n time s) p.next.next (subst (λ (t : List ℕ). IsLine behind.number t s) p.timed p.next.valid) in
+    record {
+      valid = valid;
+      is = p.text ∙ ap (λ (l : List ℕ). l ++ (p.line ++ 10 ∷ [])) empty
+          ∙ ap (λ (l : List ℕ). l ++ 10 ∷ []) (p.next.text
+          ∙ ap (λ (t : List ℕ). line_text b.chain behind.number t s) p.timed
+          ∙ ap (λ (n : ℕ). line_text b.chain n time s) p.next.next);
+    }

@@ -7,3 +7,4 @@ pub mod SayingLemmas
 pub mod SealLemmas
 pub mod StandingLemmas
 pub mod WordLemmas
+pub mod WritingLemmas

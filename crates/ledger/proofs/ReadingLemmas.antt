@@ -177,21 +177,21 @@ line_short b line s next h =
 
 -- ---- a ledger with a line more
 
-chains_more : (b h next : ChainHead) (lines : List (List ℕ)) (ss : List Said) (line : List ℕ) (s : Said)
+pub chains_more : (b h next : ChainHead) (lines : List (List ℕ)) (ss : List Said) (line : List ℕ) (s : Said)
     → ChainsFrom b lines ss h → Continues h line s next → ChainsFrom b (lines ++ line ∷ []) (ss ++ s ∷ []) next
 chains_more b h next [] [] line s p k = (next, subst (λ (g : ChainHead). Continues g line s next) (sym p) k, refl)
 chains_more b h next [] (t ∷ ss) line s p k = absurd p
 chains_more b h next (x ∷ lines) [] line s p k = absurd p
 chains_more b h next (x ∷ lines) (t ∷ ss) line s (m, one, p) k = (m, one, chains_more m h next lines ss line s p k)
 
-as_many : (b h : ChainHead) (lines : List (List ℕ)) (ss : List Said) → ChainsFrom b lines ss h
+pub as_many : (b h : ChainHead) (lines : List (List ℕ)) (ss : List Said) → ChainsFrom b lines ss h
     → length ss ≡ length lines
 as_many b h [] [] p = refl
 as_many b h [] (t ∷ ss) p = absurd p
 as_many b h (x ∷ lines) [] p = absurd p
 as_many b h (x ∷ lines) (t ∷ ss) (m, one, p) = omega (arith, as_many m h lines ss p)
 
-lines_more : (lines : List (List ℕ)) (line : List ℕ) → lines_text (lines ++ line ∷ []) ≡ lines_text lines ++ (line ++ 10 ∷ [])
+pub lines_more : (lines : List (List ℕ)) (line : List ℕ) → lines_text (lines ++ line ∷ []) ≡ lines_text lines ++ (line ++ 10 ∷ [])
 lines_more [] line = refl
 lines_more (x ∷ lines) line =
     ap (λ (l : List ℕ). x ++ 10 ∷ l) (lines_more lines line)

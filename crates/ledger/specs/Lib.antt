@@ -4,3 +4,4 @@ pub mod Lines
 pub mod Readings
 pub mod Standings
 pub mod Words
+pub mod Writing

@@ -1,6 +1,6 @@
 //! Where a ledger stands behind a line, and the line that continues it.
 
-ghost use Rattle.std.specs.Prelude.{◌≡◌, ◌≢◌, ◌↔◌, ◌+◌, ◌<◌, ◌^◌, ℕ, List, IfOk, IsTrue, MatchOption};
+ghost use Rattle.std.specs.Prelude.{◌≡◌, ◌≢◌, ◌↔◌, ◌+◌, ◌<◌, ◌^◌, ℕ, List, IfOk, IsTrue, MatchOption, length, map};
 ghost use Rattle.ledger.specs.Lines.{HasNumbers, IsWorded, Said, chain_behind as hash_behind, said_of};
 ghost use Rattle.ledger.specs.Words.{IsHash, word_and};
 
@@ -70,6 +70,7 @@ fn can_be_said(time: &[u8], entry: &LedgerEntry<'_>) -> bool
 
 impl ChainHead {
     ghost use Rattle.ledger.specs.Chains.{Continues, EndsAt, IsNextLine, start};
+    ghost use Rattle.ledger.specs.Writing.{AreNextLines, AreWorded, PutsNext};
     ghost use Rattle.ledger.specs.declared.head.ChainHead.{ChainHead as Head};
 
     /// Before the first line: the number 0, and 64 zeros.
@@ -109,6 +110,33 @@ impl ChainHead {
         Some(ChainHead { number, chain })
     }
 
+    /// Puts the next line with its line feed, of a time and what it says of a segment, behind a text, and gives
+    /// where the ledger stands behind it. `None` if the time or the name is no word, the root is none, or no
+    /// number is left; then nothing is put.
+    pub fn put_next(
+        &self,
+        text: &mut Vec<u8>,
+        time: &[u8],
+        entry: &LedgerEntry<'_>,
+    ) -> Result<Option<ChainHead>, AllocError>
+        ensures { IfOk result (λ made. MatchOption made
+            ((text.new.items ≡ text.old.items)
+            × (self.now.number + 1 < 2 ^ 64 → ¬ IsWorded time.now (said_of entry.now)))
+            (λ behind. PutsNext self.now time.now (said_of entry.now) text.old.items text.new.items behind)) }
+    {
+        if self.number == u64::MAX || !can_be_said(time, entry) {
+            return Ok(None);
+        }
+        let start = text.len();
+        let number = self.number + 1;
+        put_body(text, number, time, entry)?;
+        let chain = chain_behind(&self.chain, &text[start..]);
+        put(text, b" ")?;
+        put(text, &chain)?;
+        put(text, b"\n")?;
+        Ok(Some(ChainHead { number, chain }))
+    }
+
     /// The next line with its line feed, of a time and what it says of a segment. `None` if the time or
     /// the name is no word, the root is none, or no number is left.
     pub fn next_line(
@@ -121,16 +149,34 @@ impl ChainHead {
             (self.now.number + 1 < 2 ^ 64 → ¬ IsWorded time.now (said_of entry.now))
             (λ text. IsNextLine self.now time.now (said_of entry.now) text.items)) }
     {
-        if self.number == u64::MAX || !can_be_said(time, entry) {
-            return Ok(None);
-        }
         let mut line = Vec::new(alloc);
-        put_body(&mut line, self.number + 1, time, entry)?;
-        let chain = chain_behind(&self.chain, &line);
-        put(&mut line, b" ")?;
-        put(&mut line, &chain)?;
-        put(&mut line, b"\n")?;
-        Ok(Some(line))
+        match self.put_next(&mut line, time, entry)? {
+            Some(_) => Ok(Some(line)),
+            None => Ok(None),
+        }
+    }
+
+    /// The next lines, each with its line feed, all of one time, one for each entry; and where the ledger stands
+    /// behind them. `None` if the time is no word, one of the entries cannot be said, or no number is left.
+    pub fn next_lines(
+        &self,
+        alloc: Global,
+        time: &[u8],
+        entries: &[LedgerEntry<'_>],
+    ) -> Result<Option<(Vec<u8>, ChainHead)>, AllocError>
+        ensures { IfOk result (λ made. MatchOption made
+            (self.now.number + length entries.now < 2 ^ 64 → ¬ AreWorded time.now entries.now)
+            (λ x. AreNextLines self.now (map said_of entries.now) x.0.items x.1)) }
+    {
+        let mut text = Vec::new(alloc);
+        let mut behind = *self;
+        'entries: for entry in entries {
+            match behind.put_next(&mut text, time, entry)? {
+                Some(next) => behind = next,
+                None => return Ok(None),
+            }
+        }
+        Ok(Some((text, behind)))
     }
 
     /// What a line says, given without its line feed, and where the ledger stands behind it. `None` if

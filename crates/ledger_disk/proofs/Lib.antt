@@ -1,3 +1,4 @@
+pub mod Batches
 pub mod Behind
 pub mod Gone
 pub mod Lines

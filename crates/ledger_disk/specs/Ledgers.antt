@@ -7,6 +7,7 @@ use Rattle.disk.specs.States.{State}
 use Rattle.journal.specs.Journals.{Shows, only_file}
 use Rattle.ledger.specs.Chains.{EndsAt, IsNextLine, start}
 use Rattle.ledger.specs.Lines.{Said}
+use Rattle.ledger.specs.Writing.{AreNextLines}
 use Rattle.ledger.specs.declared.head.ChainHead.{ChainHead}
 
 -- the octets of a file, or none
@@ -72,6 +73,21 @@ pub record EndsWith (state : State) (name lines : List ℕ) (s : Said) : Type 0 
 abbrev pub GainsLine : State → State → List ℕ → Said → Type 0
 GainsLine old new name s =
     (n : ℕ) → IsLinesEnd (ledger_text old name) n → EndsWith new name (take n (ledger_text old name)) s
+
+-- Behind lines that were there the ledger has others, which continue their chain and say this of segments, and nothing
+-- else. All of it is on the disk.
+pub record EndsWithLines (state : State) (name lines : List ℕ) (ss : List Said) : Type 0 where
+  pub before : ChainHead
+  pub end : ChainHead
+  pub text : List ℕ
+  pub behind : IsBehind lines before
+  pub next : AreNextLines before ss text end
+  pub shows : Shows state name (settled (lines ++ text))
+
+-- whatever whole lines the ledger had, they are there, and behind them lines that say this
+abbrev pub GainsLines : State → State → List ℕ → List Said → Type 0
+GainsLines old new name ss =
+    (n : ℕ) → IsLinesEnd (ledger_text old name) n → EndsWithLines new name (take n (ledger_text old name)) ss
 
 -- the whole lines that the ledger had on the disk are there still
 abbrev pub KeepsLines : State → State → List ℕ → Type 0

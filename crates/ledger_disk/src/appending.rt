@@ -1,13 +1,13 @@
 //! A line is written at the end of a ledger.
-ghost use Rattle.std.specs.Prelude.{◌≡◌, ◌≤◌, ◌++◌, [], false, IfOk, IfSome, List, OnOk, Some, length, option_map, take, ℕ};
+ghost use Rattle.std.specs.Prelude.{◌≡◌, ◌≤◌, ◌++◌, [], false, IfOk, IfSome, List, OnOk, Some, length, map, option_map, take, ℕ};
 ghost use Rattle.disk.specs.Calls.{IsUnchanged};
 ghost use Rattle.disk.specs.Files.{settled};
 ghost use Rattle.disk.specs.Memory.{shown_now};
 ghost use Rattle.journal.specs.Journals.{IsSound, KeepsOrSettlesOthers, KeepsOthers, Shows};
 ghost use Rattle.ledger.specs.Lines.{said_of};
 ghost use Rattle.ledger_disk.specs.Ends.{IsBehindLast, IsEndOf};
-ghost use Rattle.ledger_disk.specs.Ledgers.{GainsLine, HoldsLines, IsLastLine, IsLinesEnd, IsNamed, IsTail, KeepsLines};
-ghost use Rattle.ledger_disk.specs.Ledgers.{ledger_text};
+ghost use Rattle.ledger_disk.specs.Ledgers.{GainsLine, GainsLines, HoldsLines, IsLastLine, IsLinesEnd, IsNamed, IsTail};
+ghost use Rattle.ledger_disk.specs.Ledgers.{KeepsLines, ledger_text};
 
 use crate::fault::ListFault;
 use crate::tail::{Tail, last_of, read_tail};
@@ -142,6 +142,35 @@ fn write_behind<D: Disk>(
     disk.sync(ledger)
 }
 
+/// Writes the lines of entries at the end of a ledger, in one piece, to the disk; a torn last line is cut off.
+/// Gives the number of the last line before them.
+pub(crate) fn append_lines<D: Disk>(
+    alloc: Global,
+    disk: &mut D,
+    ledger: &FileName,
+    time: &[u8; TIME_LEN],
+    entries: &[LedgerEntry<'_>],
+) -> Result<u64, ListFault>
+    ensures written { OnOk result (D.tells disk.new → IsSound (D.state disk.old)
+        → GainsLines (D.state disk.old) (D.state disk.new) ledger.now (map said_of entries.now)) }
+    ensures named { OnOk result (D.tells disk.new → IsSound (D.state disk.old)
+        → IsNamed (D.state disk.old) ledger.now → IsNamed (D.state disk.new) ledger.now) }
+
+    // whatever the result is: so at every moment
+    ensures kept { D.tells disk.new → IsSound (D.state disk.old)
+        → KeepsLines (D.state disk.old) (D.state disk.new) ledger.now }
+    ensures others { D.tells disk.new
+        → KeepsOrSettlesOthers (D.state disk.old) (D.state disk.new) ledger.now }
+    ensures told { D.tells disk.new → D.tells disk.old }
+{
+    let end = end_of(alloc, disk, ledger)?;
+    let Some((lines, _)) = end.head.next_lines(alloc, time, entries)? else {
+        return Err(ListFault::Disk(DiskFault::Failed));
+    };
+    write_behind(disk, ledger, end.whole, end.is_torn, &lines)?;
+    Ok(end.head.number())
+}
+
 /// Writes the line of an entry at the end of a ledger, to the disk; a torn last line is cut off. Gives
 /// the number of the line.
 pub(crate) fn append_line<D: Disk>(
@@ -163,12 +192,8 @@ pub(crate) fn append_line<D: Disk>(
         → KeepsOrSettlesOthers (D.state disk.old) (D.state disk.new) ledger.now }
     ensures told { D.tells disk.new → D.tells disk.old }
 {
-    let end = end_of(alloc, disk, ledger)?;
-    let Some(line) = end.head.next_line(alloc, time, entry)? else {
-        return Err(ListFault::Disk(DiskFault::Failed));
-    };
-    write_behind(disk, ledger, end.whole, end.is_torn, &line)?;
-    Ok(end.head.number().saturating_add(1))
+    let before = append_lines(alloc, disk, ledger, time, &[*entry])?;
+    Ok(before.saturating_add(1))
 }
 
 /// The last whole line of a ledger, without its line feed, if it has one.

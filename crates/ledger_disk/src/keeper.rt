@@ -8,6 +8,7 @@ ghost use Rattle.ledger_disk.specs.Ledgers.{IsLastLine, KeepsLines, ledger_text}
 use crate::counting::{Counted, count_entries};
 use crate::fault::{ListFault, disk_fault};
 use crate::purpose::Purpose;
+use crate::removing::is_among;
 use crate::segments::{has_file, is_kept, is_segment, listed_size, note, size_of};
 use crate::turns::Turns;
 use crate::writer::LineWriter;
@@ -15,8 +16,8 @@ use disk::{Disk, DiskFault, FileName};
 use ledger::{Event, LedgerEntry, Removal, Standing};
 use std::alloc::{AllocError, Global};
 
-// The most lines of a turn: others who write into the ledger wait meanwhile.
-const LINES_A_TURN: usize = 64;
+// The most lines of a turn, which are written in one piece: others who write into the ledger wait meanwhile.
+const LINES_A_TURN: usize = 1_024;
 
 /// A disk and the ledger of its store.
 #[derive(Drop)]
@@ -32,6 +33,33 @@ pub(crate) struct LedgerKeeper<D, T> {
     joined: Option<u64>,
     // whether what gets its name is listed, once that is decided
     lists: Option<bool>,
+    // why names that wait were last not listed
+    pub(crate) unlisted_for: Option<ListFault>,
+}
+
+// What the lines of segments say that were counted, of those that are among names, which are in order.
+fn entries_of<'a>(
+    alloc: Global,
+    names: &[FileName],
+    segments: &'a [FileName],
+    counts: &[Option<Counted>],
+    event: Event,
+) -> Result<Vec<LedgerEntry<'a>>, AllocError> {
+    let mut entries = Vec::new(alloc);
+    'segments: for (segment, count) in segments.iter().zip(counts.iter()) {
+        let Some(counted) = *count else {
+            continue 'segments;
+        };
+        if is_among(names, segment) {
+            entries.push(LedgerEntry {
+                event,
+                name: segment.as_octets(),
+                count: counted.entries,
+                octets: counted.octets,
+            })?;
+        }
+    }
+    Ok(entries)
 }
 
 impl<D: Disk + Drop, T: Turns + Drop> LedgerKeeper<D, T> {
@@ -50,6 +78,7 @@ impl<D: Disk + Drop, T: Turns + Drop> LedgerKeeper<D, T> {
             standing: None,
             joined: None,
             lists: None,
+            unlisted_for: None,
         })
     }
 
@@ -159,32 +188,21 @@ impl<D: Disk + Drop, T: Turns + Drop> LedgerKeeper<D, T> {
         Ok(counts)
     }
 
-    // Writes the line of a segment that came, in a turn that has begun, if the folder has it by its names, which
-    // are in order.
-    fn list(
-        &mut self,
-        names: &[FileName],
-        name: &FileName,
-        count: Counted,
-        event: Event,
-    ) -> Result<(), ListFault> {
-        let entry = LedgerEntry {
-            event,
-            name: name.as_octets(),
-            count: count.entries,
-            octets: count.octets,
-        };
-        let Some(number) = self.writer.append_of(names, name, &entry)? else {
-            return Ok(());
-        };
-        if event == Event::Joined {
-            self.joined = Some(number);
+    // Notes lines that were written behind the line with a number.
+    fn note_all(&mut self, before: u64, entries: &[LedgerEntry<'_>]) -> Result<(), AllocError> {
+        let mut number = before;
+        'entries: for entry in entries {
+            number = number.saturating_add(1);
+            if entry.event == Event::Joined {
+                self.joined = Some(number);
+            }
+            note(&mut self.standing, number, entry)?;
         }
-        note(&mut self.standing, number, &entry)?;
         Ok(())
     }
 
-    // Writes the lines of segments that were counted, in a turn that has begun.
+    // Writes the lines of segments that were counted, in a turn that has begun, of those that the folder has by its
+    // names, which are in order.
     fn list_those(
         &mut self,
         names: &[FileName],
@@ -192,11 +210,12 @@ impl<D: Disk + Drop, T: Turns + Drop> LedgerKeeper<D, T> {
         counts: &[Option<Counted>],
         event: Event,
     ) -> Result<(), ListFault> {
-        'segments: for (segment, count) in segments.iter().zip(counts.iter()) {
-            if let Some(count) = *count {
-                self.list(names, segment, count, event)?;
-            }
+        let entries = entries_of(self.alloc, names, segments, counts, event)?;
+        if entries.is_empty() {
+            return Ok(());
         }
+        let before = self.writer.append_all(&entries)?;
+        self.note_all(before, &entries)?;
         Ok(())
     }
 
@@ -264,7 +283,9 @@ impl<D: Disk + Drop, T: Turns + Drop> LedgerKeeper<D, T> {
             return Ok(());
         }
         let waiting = std::mem::replace(&mut self.waiting, Vec::new(self.alloc));
-        match self.list_named(&waiting) {
+        let answer = self.list_named(&waiting);
+        self.unlisted_for = answer.err();
+        match answer {
             Ok(()) => Ok(()),
             Err(fault) => {
                 self.waiting = waiting;

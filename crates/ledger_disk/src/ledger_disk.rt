@@ -64,6 +64,11 @@ impl<D: Disk + Drop, T: Turns + Drop> LedgerDisk<D, T> {
         &self.keeper.writer.turns
     }
 
+    /// Why the segments that last got their names were not listed, if they were not.
+    pub fn unlisted_for(&self) -> Option<ListFault> {
+        self.keeper.unlisted_for
+    }
+
     /// What the ledger lists, where it was read (see `catch_up`).
     pub fn standing(&self) -> Option<&Standing> {
         self.keeper.standing.as_ref()

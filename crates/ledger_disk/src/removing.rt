@@ -6,7 +6,7 @@ ghost use Rattle.ledger.specs.Lines.{said_of};
 ghost use Rattle.ledger_disk.specs.Ledgers.{GainsLine, IsNamed, KeepsLines};
 
 use crate::appending::append_line;
-use crate::fault::{ListFault, disk_fault};
+use crate::fault::disk_fault;
 use crate::turns::TIME_LEN;
 use disk::{Disk, DiskFault, FileName};
 use ledger::LedgerEntry;
@@ -57,33 +57,9 @@ pub(crate) fn names_in_order<D: Disk>(
     Ok(names)
 }
 
-// Whether a name is among others, which are in order.
-fn is_among(names: &[FileName], name: &FileName) -> bool {
+/// Whether a name is among others, which are in order.
+pub(crate) fn is_among(names: &[FileName], name: &FileName) -> bool {
     names
         .binary_search_by(|other| other.as_octets().cmp(name.as_octets()))
         .is_ok()
-}
-
-/// Writes the line of a segment, if it is among the names of the folder, which are in order. Gives the number
-/// of the line.
-pub(crate) fn append_if_there<D: Disk>(
-    alloc: Global,
-    disk: &mut D,
-    ledger: &FileName,
-    names: &[FileName],
-    segment: &FileName,
-    time: &[u8; TIME_LEN],
-    entry: &LedgerEntry<'_>,
-) -> Result<Option<u64>, ListFault>
-    // whatever the result is: so at every moment
-    ensures kept { D.tells disk.new → IsSound (D.state disk.old)
-        → KeepsLines (D.state disk.old) (D.state disk.new) ledger.now }
-    ensures others { D.tells disk.new
-        → KeepsOrSettlesOthers (D.state disk.old) (D.state disk.new) ledger.now }
-    ensures told { D.tells disk.new → D.tells disk.old }
-{
-    if !is_among(names, segment) {
-        return Ok(None);
-    }
-    Ok(Some(append_line(alloc, disk, ledger, time, entry)?))
 }

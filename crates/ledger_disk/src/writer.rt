@@ -1,15 +1,15 @@
 //! Lines are written in turns.
-ghost use Rattle.std.specs.Prelude.{◌≡◌, ◌≢◌, IfOk, IsNone, IsSome, OnOk, option_map};
+ghost use Rattle.std.specs.Prelude.{◌≡◌, ◌≢◌, IfOk, IsNone, IsSome, OnOk, map, option_map};
 ghost use Rattle.disk.specs.Calls.{IsUnchanged};
 ghost use Rattle.journal.specs.Journals.{IsSound, KeepsOrSettlesOthers};
 ghost use Rattle.ledger.specs.Lines.{said_of};
 ghost use Rattle.ledger_disk.specs.Disks.{KeepsOtherFiles, ledger_name};
-ghost use Rattle.ledger_disk.specs.Ledgers.{GainsLine, IsLastLine, IsNamed, KeepsLines, ledger_text};
+ghost use Rattle.ledger_disk.specs.Ledgers.{GainsLine, GainsLines, IsLastLine, IsNamed, KeepsLines, ledger_text};
 
-use crate::appending::{append_line, last_line};
+use crate::appending::{append_line, append_lines, last_line};
 use crate::fault::ListFault;
 use crate::reading::{begins_ledger, read_standing};
-use crate::removing::{append_if_there, names_in_order, remove_listed};
+use crate::removing::{names_in_order, remove_listed};
 use crate::turns::Turns;
 use disk::{Disk, DiskFault, FileName};
 use ledger::{LedgerEntry, Standing};
@@ -92,14 +92,11 @@ impl<D: Disk + Drop, T: Turns + Drop> LineWriter<D, T> {
         self.turns.end();
     }
 
-    /// Writes a line of a segment in the turn that has begun, if the folder has the segment, by its names, which
-    /// are in order. Gives the number of the line.
-    pub(crate) fn append_of(
-        &mut self,
-        names: &[FileName],
-        segment: &FileName,
-        entry: &LedgerEntry<'_>,
-    ) -> Result<Option<u64>, ListFault>
+    /// Writes lines in the turn that has begun, in one piece. Gives the number of the last line before them.
+    pub(crate) fn append_all(&mut self, entries: &[LedgerEntry<'_>]) -> Result<u64, ListFault>
+        ensures written { OnOk result (D.tells self.new.disk → IsSound (D.state self.old.disk)
+            → GainsLines (D.state self.old.disk) (D.state self.new.disk) ledger_name (map said_of entries.now)) }
+
         // whatever the result is: so at every moment
         ensures kept { D.tells self.new.disk → IsSound (D.state self.old.disk)
             → KeepsLines (D.state self.old.disk) (D.state self.new.disk) ledger_name }
@@ -108,8 +105,7 @@ impl<D: Disk + Drop, T: Turns + Drop> LineWriter<D, T> {
         ensures told { D.tells self.new.disk → D.tells self.old.disk }
     {
         let time = self.turns.time();
-        let disk = &mut self.disk;
-        append_if_there(self.alloc, disk, &self.ledger, names, segment, &time, entry)
+        append_lines(self.alloc, &mut self.disk, &self.ledger, &time, entries)
     }
 
     /// Removes a segment, in a turn, once its line is written. Gives the number of the line.

@@ -11,6 +11,7 @@ use libc::net::poll;
 use octet_devices::{Output, write_all};
 use std::alloc::Global;
 use std::fmt::Display;
+use std::io::ErrorKind;
 use store_engine::line_on;
 use syslog_grammar::canonical_timestamp;
 use syslog_value::Instant;
@@ -50,6 +51,18 @@ impl<'d> SystemTurns<'d> {
     }
 }
 
+// What it means for who waits for a turn that a lock was not taken.
+fn fault_of(fault: &LockFault) -> DiskFault {
+    match fault {
+        LockFault::Held => DiskFault::Failed,
+        LockFault::Failed(error) => match error.kind() {
+            ErrorKind::OutOfMemory => DiskFault::Memory,
+            ErrorKind::StorageFull | ErrorKind::QuotaExceeded => DiskFault::Full,
+            _ => DiskFault::Failed,
+        },
+    }
+}
+
 impl<'d> Turns for SystemTurns<'d> {
     fn begin(&mut self) -> Result<(), DiskFault> {
         'tries: for _ in 0..TRIES {
@@ -63,8 +76,9 @@ impl<'d> Turns for SystemTurns<'d> {
                     let _ = poll(&mut [], TRY_MILLIS);
                 }
                 Err(fault) => {
+                    let answer = fault_of(&fault);
                     self.fault = Some(fault);
-                    return Err(DiskFault::Failed);
+                    return Err(answer);
                 }
             }
         }
@@ -116,6 +130,9 @@ pub fn report_turn_fault<N: Output>(
 ) -> Option<u8> {
     let lock = LockFile::Ledger.name();
     match turns.fault()? {
+        LockFault::Failed(error) if error.kind() == ErrorKind::OutOfMemory => {
+            Some(report(diagnostics, b"want of memory\n", NO_MEMORY))
+        }
         LockFault::Failed(error) => Some(report_why(alloc, lock, &error.error, diagnostics)),
         held => Some(report_why(alloc, lock, held, diagnostics)),
     }

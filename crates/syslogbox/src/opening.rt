@@ -15,8 +15,11 @@ use store_keeper::{DiskKeeper, SoundDisk};
 /// The exit status of a server that does not begin.
 pub type Fault = u8;
 
-/// The store of a folder, whose ledger takes the segments that are made.
-pub type Keeper<'d> = DiskKeeper<LedgerDisk<FolderDisk<HostRuntime>, SystemTurns<'d>>>;
+/// The disk of a store, whose ledger takes the segments that are made.
+pub type StoreDisk<'d> = LedgerDisk<FolderDisk<HostRuntime>, SystemTurns<'d>>;
+
+/// The store of a folder.
+pub type Keeper<'d> = DiskKeeper<StoreDisk<'d>>;
 
 // Whether memory ran out while a store was opened.
 fn wants_memory(fault: &OpenFault) -> bool {
@@ -43,20 +46,12 @@ fn refuse_store(
     teller.refuse_disk(dir, disk, fault)
 }
 
-// Tells an error of the system on a file or a folder. Want of memory is told as that.
-fn refuse_io(teller: Teller<'_, '_>, path: &str, error: io::Error) -> u8 {
+// Tells an error of the system on a file of the store. Want of memory is told as that.
+fn refuse_file(teller: Teller<'_, '_>, dir: &str, name: &str, error: io::Error) -> u8 {
     if error.kind() == io::ErrorKind::OutOfMemory {
         return teller.out_of_memory();
     }
-    teller.refuse(path, error)
-}
-
-// Tells an error of the system on a file of the store.
-fn refuse_file(teller: Teller<'_, '_>, dir: &str, name: &str, error: io::Error) -> u8 {
-    match format!(in teller.rt.alloc(); "{dir}/{name}") {
-        Ok(path) => refuse_io(teller, path.as_str(), error),
-        Err(_) => teller.out_of_memory(),
-    }
+    teller.refuse_file(dir, name, error)
 }
 
 // Tells an error of the system on the file of the lock.
@@ -94,15 +89,7 @@ pub fn tell_note_error(teller: Teller<'_, '_>, dir: &str, disk: &FolderDisk<Host
     let Some(error) = disk.note_error() else {
         return;
     };
-    let name = LockFile::Writing.name();
-    match format!(in teller.rt.alloc(); "{dir}/{name}") {
-        Ok(path) => {
-            let _status = teller.refuse(path.as_str(), error);
-        }
-        Err(_) => {
-            let _status = teller.out_of_memory();
-        }
-    }
+    let _status = teller.refuse_file(dir, LockFile::Writing.name(), error);
 }
 
 // Tells what was set aside when the store was opened.

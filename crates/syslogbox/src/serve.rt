@@ -4,14 +4,15 @@ use crate::askers::Askers;
 use crate::copy_disk::is_unfinished;
 use crate::flushing::Flushing;
 use crate::notes::Notes;
-use crate::opening::{Fault, Keeper, open_refused, open_store, tell_note_error};
+use crate::opening::{Fault, Keeper, StoreDisk, open_refused, open_store, tell_note_error};
 use crate::outputs::{Outputs, SharedNotes, SharedRefused};
 use crate::service_manager::ServiceManager;
 use crate::telling::Teller;
 use crate::time::ServerTime;
 use crate::watched::{Watched, Watcher};
 use driver::{NO_MEMORY, report};
-use folder_disk::FolderDisk;
+use folder_disk::LockFile;
+use ledger_disk::ListFault;
 use octet_devices::ToWrite;
 use peer_rules::AllowList;
 use serve_engine::{ServeCounts, ServeEnd, ServeOptions, Server};
@@ -247,12 +248,24 @@ fn serve_options(words: &ServeWords<'_>) -> ServeOptions {
     }
 }
 
-// Tells why serving ended, where it did not finish.
-fn tell_end(teller: Teller<'_, '_>, dir: &str, end: ServeEnd, disk: &FolderDisk<HostRuntime>) {
-    match end {
-        ServeEnd::Disk => {
-            let _status = teller.refuse_disk(dir, disk, "the disk failed");
+// Tells why the disk of a store failed: its ledger, if that was not written, or else the error of the system.
+fn tell_disk(teller: Teller<'_, '_>, dir: &str, disk: &StoreDisk<'_>) {
+    let _status = match (disk.turns().fault(), disk.unlisted_for()) {
+        (Some(fault), _) => teller.refuse_file(dir, LockFile::Ledger.name(), fault),
+        (None, Some(ListFault::Broken { at })) => {
+            match format!(in teller.rt.alloc(); "damaged at octet {at}") {
+                Ok(why) => teller.refuse_file(dir, "ledger", why.as_str()),
+                Err(_) => teller.out_of_memory(),
+            }
         }
+        _ => teller.refuse_disk(dir, disk.disk(), "the disk failed"),
+    };
+}
+
+// Tells why serving ended, where it did not finish.
+fn tell_end(teller: Teller<'_, '_>, dir: &str, end: ServeEnd, disk: &StoreDisk<'_>) {
+    match end {
+        ServeEnd::Disk => tell_disk(teller, dir, disk),
         ServeEnd::Memory => {
             let _status = teller.out_of_memory();
         }
@@ -281,7 +294,7 @@ fn finish(
     outputs.save_last();
     let (keeper, _notes, _refused) = server.into_parts();
     tell_note_error(teller, dir, keeper.disk().disk());
-    tell_end(teller, dir, end, keeper.disk().disk());
+    tell_end(teller, dir, end, keeper.disk());
     status
 }
 

@@ -23,6 +23,14 @@ impl<'r, 'n> Teller<'r, 'n> {
         }
     }
 
+    /// Tells why serving does not begin, or ends, of a file in a folder, and gives the status.
+    pub fn refuse_file(&self, dir: &str, name: &str, why: impl Display + Drop) -> u8 {
+        match format!(in self.rt.alloc(); "{dir}/{name}") {
+            Ok(path) => self.refuse(path.as_str(), why),
+            Err(_) => self.out_of_memory(),
+        }
+    }
+
     /// Tells that memory ran out, and gives the status.
     pub fn out_of_memory(&self) -> u8 {
         report(
