@@ -44,7 +44,7 @@ _syslogbox_options() {
             echo "--against --quiet --help"
             ;;
         expire)
-            echo "--before --keep --undated --dry-run --quiet --help"
+            echo "--before --keep --room --undated --dry-run --quiet --help"
             ;;
         seal)
             echo "--before --quiet --help"
@@ -84,11 +84,12 @@ _syslogbox_value() {
         "follow --from" | "follow --to" | "follow --host" | "follow --app" | "follow --proc" | "follow --msgid" | \
         "follow --id" | "follow --message" | "follow --host-like" | "follow --app-like" | "follow --not-host" | \
         "follow --not-app" | "follow --not-message" | "verify --against" | "expire --before" | "expire --keep" | \
-        "seal --before" | "reconcile --from" | "reconcile --to" | "reconcile --room" | "reconcile --timeout" | \
-        "answer --room" | "answer --timeout" | "send --host" | "send --app" | "send --proc" | "send --msgid" | \
-        "send --micros" | "collect --legacy" | "collect --zone" | "serve --udp" | "serve --counted" | "serve --lf" | \
-        "serve --allow" | "serve --connections" | "serve --per-peer" | "serve --idle" | "serve --commit" | \
-        "serve --checkpoint" | "serve --metrics" | "serve --legacy" | "serve --zone")
+        "expire --room" | "seal --before" | "reconcile --from" | "reconcile --to" | "reconcile --room" | \
+        "reconcile --timeout" | "answer --room" | "answer --timeout" | "send --host" | "send --app" | \
+        "send --proc" | "send --msgid" | "send --micros" | "collect --legacy" | "collect --zone" | "serve --udp" | \
+        "serve --counted" | "serve --lf" | "serve --allow" | "serve --connections" | "serve --per-peer" | \
+        "serve --idle" | "serve --commit" | "serve --checkpoint" | "serve --metrics" | "serve --legacy" | \
+        "serve --zone")
             echo "text"
             ;;
         "show --dialect" | "check --dialect" | "convert --dialect" | "archive --dialect" | "collect --dialect" | \

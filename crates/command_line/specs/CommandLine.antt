@@ -279,8 +279,9 @@ with_archives a = with_stream_commands (with_set_commands (with_archive_commands
 -- the command that removes old records from a store
 abbrev pub expire_app : App
 expire_app =
-    with_quiet_rule (with_rule (with_rule (with_rule (with_rule (folder_app (codes "expire")) (option_rule (codes "before")))
-    (option_rule (codes "keep"))) (flag_rule (codes "undated"))) (flag_rule (codes "dry-run")))
+    with_quiet_rule (with_rule (with_rule (with_rule (with_rule (with_rule (folder_app (codes "expire"))
+    (option_rule (codes "before"))) (option_rule (codes "keep"))) (option_rule (codes "room")))
+    (flag_rule (codes "undated"))) (flag_rule (codes "dry-run")))
 
 -- the command that seals the days of a store that are over
 abbrev pub seal_app : App

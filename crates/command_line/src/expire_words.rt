@@ -1,6 +1,6 @@
 //! The words of `expire`.
 
-ghost use Rattle.std.specs.Prelude.{◌≡◌, option_map};
+ghost use Rattle.std.specs.Prelude.{◌≡◌, None, option_map};
 ghost use Rattle.std.specs.Result.{result_ok};
 ghost use Rattle.clap.specs.Words.{found_of, rows_of};
 ghost use Rattle.command_line.specs.Expiries.{bound_by, bound_in, expire_in};
@@ -8,22 +8,33 @@ ghost use Rattle.command_line.specs.Requests.{asked_by, read_expire};
 
 use crate::request::{ExpireBound, ExpireWords, Request};
 use clap::ArgMatches;
-use option_values::options::{BEFORE, DIR, DRY_RUN, EXPIRE_UNDATED, KEEP};
-use option_values::{Refusal, is_given, needed, optional_instant, optional_number};
+use option_values::options::{BEFORE, DIR, DRY_RUN, EXPIRE_ROOM, EXPIRE_UNDATED, KEEP};
+use option_values::{OptionRow, Refusal, is_given, needed, optional_instant, optional_number};
 use syslog_value::Instant;
 
-// How old the records are, by the two options, one of which has to be given and excludes the other.
-fn bound_by(before: Option<Instant>, days: Option<u32>) -> Result<ExpireBound, Refusal<'static>>
-    ensures { result_ok result ≡ bound_by before days }
+// The refusal of an option beside another one that says what is old.
+fn excluded(option: OptionRow, other: OptionRow) -> Result<ExpireBound, Refusal<'static>>
+    ensures { result_ok result ≡ None }
 {
-    match (before, days) {
-        (None, None) => Err(Refusal::NoBound),
-        (Some(time), None) => Ok(ExpireBound::Before(time)),
-        (None, Some(days)) => Ok(ExpireBound::Keep { days }),
-        (Some(_), Some(_)) => Err(Refusal::Excluded {
-            option: KEEP,
-            other: BEFORE,
-        }),
+    Err(Refusal::Excluded { option, other })
+}
+
+// How old the records are, by three options, one of which has to be given and excludes the others.
+fn bound_by(
+    before: Option<Instant>,
+    days: Option<u32>,
+    room: Option<u32>,
+) -> Result<ExpireBound, Refusal<'static>>
+    ensures { result_ok result ≡ bound_by before days room }
+{
+    match (before, days, room) {
+        (None, None, None) => Err(Refusal::NoBound),
+        (Some(time), None, None) => Ok(ExpireBound::Before(time)),
+        (None, Some(days), None) => Ok(ExpireBound::Keep { days }),
+        (None, None, Some(mib)) => Ok(ExpireBound::Room { mib }),
+        (Some(_), Some(_), _) => excluded(KEEP, BEFORE),
+        (Some(_), None, Some(_)) => excluded(EXPIRE_ROOM, BEFORE),
+        (None, Some(_), Some(_)) => excluded(EXPIRE_ROOM, KEEP),
     }
 }
 
@@ -39,7 +50,11 @@ fn bound<'a>(matches: &ArgMatches<'a>) -> Result<ExpireBound, Refusal<'a>>
         Ok(days) => days,
         Err(refusal) => return Err(refusal),
     };
-    bound_by(before, days)
+    let room = match optional_number(matches, &EXPIRE_ROOM) {
+        Ok(room) => room,
+        Err(refusal) => return Err(refusal),
+    };
+    bound_by(before, days, room)
 }
 
 // What is removed, by the values of the options.

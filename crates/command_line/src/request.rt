@@ -75,6 +75,8 @@ pub enum ExpireBound {
     Before(Instant),
     /// They are older than so many days.
     Keep { days: u32 },
+    /// They are the oldest ones, without which the segments have at most so many MiB, 1 to 16,777,216.
+    Room { mib: u32 },
 }
 
 /// What `expire` removes.

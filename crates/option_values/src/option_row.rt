@@ -234,9 +234,10 @@ pub fn refusal_text(alloc: Global, refusal: Refusal<'_>) -> Result<String, Alloc
             alloc,
             "error: serve needs a listener: --udp, --counted, --lf, --unix or --inherited\n",
         ),
-        Refusal::NoBound => {
-            String::from_str(alloc, "error: expire needs a time: --before or --keep\n")
-        }
+        Refusal::NoBound => String::from_str(
+            alloc,
+            "error: expire needs one of --before, --keep and --room\n",
+        ),
         Refusal::NoSealTime => String::from_str(alloc, "error: seal needs a time: --before\n"),
         Refusal::Excluded { option, other } => {
             let name = option.name;

@@ -595,6 +595,15 @@ pub const KEEP: OptionRow = OptionRow {
     help: "Remove the records that are older than DAYS days, rounded down to the hour: 1 to 36500",
 };
 
+/// `--room` of `expire`.
+pub const EXPIRE_ROOM: OptionRow = OptionRow {
+    name: "room",
+    form: Form::Single,
+    value: "mib",
+    kind: Kind::Number(1, 16_777_216),
+    help: "Remove the oldest days until the segments have at most MIB MiB: 1 to 16777216",
+};
+
 /// `--undated` of `expire`.
 pub const EXPIRE_UNDATED: OptionRow = OptionRow {
     name: "undated",

@@ -6,6 +6,7 @@ pub mod Finding
 pub mod Hours
 pub mod Keeping
 pub mod Resting
+pub mod Rooms
 pub mod Shedding
 pub mod Surveying
 pub mod Taking

@@ -12,7 +12,7 @@ use std::cmp::Ordering;
 use store_reading::segment_day;
 
 // Which of two names comes first: the shorter one, as that of a segment without a day.
-fn compare(one: &[u8], other: &[u8]) -> Ordering
+pub fn compare(one: &[u8], other: &[u8]) -> Ordering
     ensures { result ≡ compare_periods one.now other.now }
 {
     one.len().cmp(&other.len()).then(one.cmp(other))

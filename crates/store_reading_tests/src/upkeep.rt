@@ -2,6 +2,7 @@
 
 mod compacting;
 mod expiring;
+mod fitting;
 
 use crate::views::view_of;
 use archive_text::ArchiveFault;

@@ -23,6 +23,7 @@ mod notes;
 mod opening;
 mod outputs;
 mod refused;
+mod rooms;
 mod serve;
 mod service_manager;
 mod shared_disk;

@@ -6,6 +6,7 @@ use crate::copies::report_unfinished;
 use crate::ledgers::{LookPause, SystemTurns, report_line, report_list_fault, report_turn_fault};
 use crate::meter::{ClearedWriter, Meter, SharedMeter};
 use crate::metered_store::{MeteredStore, store_octets};
+use crate::rooms::{octets_in, segment_sizes};
 use archive_sets::Conditions;
 use command_line::{ColorWhen, ExpireBound, ExpireWords, ReadWords};
 use disk::DiskFault;
@@ -23,7 +24,7 @@ use store_engine::{
     SystemDisk, SystemFolder, line_on, report_damaged_file, report_file_error, report_no_store,
     report_read_fault, verify_store,
 };
-use store_expiry::{ExpireFault, Expired};
+use store_expiry::{ExpireFault, Expired, expired_for_room, octets_of, octets_without};
 use store_reading::{FileFault, ReadFault};
 use store_statistics::stat_store;
 use store_upkeep::{CompactFault, DamagedFile};
@@ -355,11 +356,75 @@ pub fn compact(rt: &HostRuntime, alloc: Global, dir: &str, is_quiet: bool) -> u8
     compact_metered(rt, alloc, dir, meter)
 }
 
-// The time up to which records are removed; `None` where the system's clock does not tell it.
-fn time_of(rt: &HostRuntime, bound: ExpireBound) -> Option<Instant> {
-    match bound {
+// What is old: the days that have to go so that the segments fit in so many MiB, or why their lengths are not known.
+fn expired_beyond<N: Output>(
+    rt: &HostRuntime,
+    alloc: Global,
+    dir: &str,
+    mib: u32,
+    undated: bool,
+    diagnostics: &mut N,
+) -> Result<Expired, u8> {
+    match segment_sizes(rt, alloc, dir) {
+        Ok(segments) => Ok(expired_for_room(&segments, octets_in(mib), undated)),
+        Err(error) => Err(report_why(alloc, dir, error, diagnostics)),
+    }
+}
+
+// What is old, or why that is not known.
+fn expired_by<N: Output>(
+    rt: &HostRuntime,
+    alloc: Global,
+    dir: &str,
+    words: &ExpireWords,
+    diagnostics: &mut N,
+) -> Result<Expired, u8> {
+    let time = match words.bound {
         ExpireBound::Before(time) => Some(time),
         ExpireBound::Keep { days } => days_ago(rt, days),
+        ExpireBound::Room { mib } => {
+            return expired_beyond(rt, alloc, dir, mib, words.undated, diagnostics);
+        }
+    };
+    match time {
+        Some(time) => Ok(Expired::before(time, words.undated)),
+        None => {
+            let line = b"the system's clock does not tell the time\n";
+            Err(report(diagnostics, line, FAULT))
+        }
+    }
+}
+
+// Says how much is left where the segments have more than they were to have. Returns the exit status.
+fn report_left<N: Output>(
+    rt: &HostRuntime,
+    alloc: Global,
+    dir: &str,
+    words: &ExpireWords,
+    expired: &Expired,
+    diagnostics: &mut N,
+) -> u8 {
+    let ExpireBound::Room { mib } = words.bound else {
+        return DONE;
+    };
+    let segments = match segment_sizes(rt, alloc, dir) {
+        Ok(segments) => segments,
+        Err(error) => return report_why(alloc, dir, error, diagnostics),
+    };
+    let left = if words.dry_run {
+        octets_without(&segments, expired)
+    } else {
+        octets_of(&segments)
+    };
+    if left <= u128::from(octets_in(mib)) {
+        return DONE;
+    }
+    let line = format!(in alloc;
+        "{dir}: {left} octets of segments are left, more than {mib} MiB\n"
+    );
+    match line {
+        Ok(line) => report(diagnostics, line.as_bytes(), DONE),
+        Err(_) => report(diagnostics, b"want of memory\n", NO_MEMORY),
     }
 }
 
@@ -389,21 +454,24 @@ fn expire_metered(
     rt: &HostRuntime,
     alloc: Global,
     dir: &str,
-    expired: Expired,
-    is_dry_run: bool,
+    words: &ExpireWords,
     meter: SharedMeter<'_, '_>,
 ) -> u8 {
     let mut output = cleared_output(rt, meter);
     let mut diagnostics = cleared_errors(rt, meter);
-    let purpose = (!is_dry_run).then_some(Purpose::Expire);
+    let purpose = (!words.dry_run).then_some(Purpose::Expire);
     let mut disk = match open_listed(rt, alloc, dir, purpose, meter, &mut diagnostics) {
         Ok(disk) => disk,
         Err(status) => return status,
     };
-    let ended = store_expiry::expire(alloc, &mut disk, expired, is_dry_run, &mut output);
+    let expired = match expired_by(rt, alloc, dir, words, &mut diagnostics) {
+        Ok(expired) => expired,
+        Err(status) => return status,
+    };
+    let ended = store_expiry::expire(alloc, &mut disk, expired, words.dry_run, &mut output);
     meter.clear();
     let Err(fault) = ended else {
-        return DONE;
+        return report_left(rt, alloc, dir, words, &expired, &mut diagnostics);
     };
     match report_turn_fault(alloc, disk.turns(), &mut diagnostics) {
         Some(status) => status,
@@ -411,8 +479,9 @@ fn expire_metered(
     }
 }
 
-/// Removes old records of a store, and writes a line for each file that goes. Returns the exit status: 0
-/// where no segment has an old record then, 1 where one is damaged.
+/// Removes old records of a store, and writes a line for each file that goes, and one to standard error where the
+/// segments have more than `--room` says still. Returns the exit status: 0 where no segment has an old record then, 1
+/// where one is damaged.
 pub fn expire(
     rt: &HostRuntime,
     alloc: Global,
@@ -420,15 +489,10 @@ pub fn expire(
     words: ExpireWords,
     is_quiet: bool,
 ) -> u8 {
-    let Some(time) = time_of(rt, words.bound) else {
-        let line = b"the system's clock does not tell the time\n";
-        return report(&mut ToWrite::new(rt.stderr()), line, FAULT);
-    };
-    let expired = Expired::before(time, words.undated);
     let meter = Meter::of_files(rt, is_quiet);
     let meter = SharedMeter::new(meter.as_ref());
     meter.expect_more(None);
-    expire_metered(rt, alloc, dir, expired, words.dry_run, meter)
+    expire_metered(rt, alloc, dir, &words, meter)
 }
 
 // Seals the days of a store that ended by a time, and writes the last line of its ledger; a meter counts the octets that are
