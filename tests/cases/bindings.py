@@ -72,6 +72,10 @@ def known(program):
 
 
 def in_c(program, results, folder, frames, answers):
+    cases, built, said = compiled(folder, "cases", [ROOT / "tests/bindings/cases.c"], *SANITIZED)
+    results.check("C: the cases are compiled", built, said)
+    if built:
+        results.same("C: cases", run(cases, []), (0, b"", b""))
     calls, built, said = compiled(folder, "calls", [ROOT / "tests/bindings/calls.c"], *SANITIZED)
     results.check("C: the calls are compiled", built, said)
     if not built:

@@ -1,14 +1,17 @@
 """Proofs that a record is in an archive, or that it is not: an independent maker of them (RFC 9162), examples/confirm.py, and the
-commands root, prove and confirm, where the program has them."""
+commands root, prove and confirm, where the program has them: rows, devices that fail, and random archives."""
 import functools
 import hashlib
 import importlib.util
 import re
+import resource
+import signal
 import subprocess
 import sys
 from random import Random
 
 from hostile.archives import POOL
+from lib.faults import each_call
 from lib.program import ROOT
 from lib.reference import archive_text, read
 
@@ -28,6 +31,42 @@ EXAMPLE = str(ROOT / "examples/confirm.py")
 TREES = 300  # the most leaves of trees all of whose paths are tried
 CHANGED, AT_ONCE = 100_000, 1_000  # proofs that are changed, and how many of them `confirm` reads in one run
 PERIODS = {"month": 7, "day": 10, "hour": 13}  # how many octets of a time name its period
+
+# an archive of three records, and the hashes of its tree and of that of the first two
+RECORDS = [b"<13>1 - h a - - - x", b"<12>1 2024-02-29T23:00:00.000000Z h a - - - z", b"<14>1 2024-03-01T00:00:00.000000Z h a - - - y"]
+HASH = b"b2ca812d8b8b106a59147797c1110fef415ed83472feda484e915a67767c692a"
+HASH_OF_TWO = b"c4a21e4714a5ffedb92d54bd40784bf01c99de77f555ebe18f055b6f8467e786"
+X, Z = (b"a54f2a5923f10eb02db5ff1a1522f153c009b103cb733b67c7942d2fd1b5df21",
+        b"2416db0bca0d13c1c979e96f66be4b197a52c2ee76f35ed7cfa4ca12a4f7ae5f")  # the hashes of the first leaf and of the second
+Y = b"26ea6b6146b2921a6c2334797ad60424f78ba55bdf654a3a0550ebab538ccd04"
+PATH_OF_X, PATH_OF_Z, PATH_OF_Y = b"0 2\n%b\n%b\n" % (Z, Y), b"1 2\n%b\n%b\n" % (X, Y), b"2 1\n%b\n" % HASH_OF_TWO
+
+# entries that are asked for, two of them in another spelling, and their proofs; records before all, between two and behind all
+FIRST, FIRST_PROOF = b"19 <13>1 - h a - - - x", b"present " + PATH_OF_X + b"\n"
+SECOND, SECOND_PROOF = b"38 <12>1 2024-02-29T23:00:00Z h a - - - z", b"present " + PATH_OF_Z + b"\n"
+THIRD, THIRD_PROOF = b"45 <14>1 2024-03-01T01:00:00.0+01:00 h a - - - y", b"present " + PATH_OF_Y + b"\n"
+BEFORE, BEFORE_PROOF = b"19 <13>1 - h a - - - a", b"absent\nbehind 19 <13>1 - h a - - - x\n" + PATH_OF_X + b"\n"
+BETWEEN, BETWEEN_PROOF = b"19 <13>1 - h a - - - y", (b"absent\nbefore 19 <13>1 - h a - - - x\n" + PATH_OF_X + b"behind 45 "
+                                                    + RECORDS[1] + b"\n" + PATH_OF_Z + b"\n")
+BEHIND, BEHIND_PROOF = b"38 <12>1 2024-03-02T00:00:00Z h a - - - z", b"absent\nbefore 45 " + RECORDS[2] + b"\n" + PATH_OF_Y + b"\n"
+
+# entries that are asked for, their proofs, and what they show
+PROVED = [([], [], b""), ([FIRST], [FIRST_PROOF], b"present\n"), ([SECOND], [SECOND_PROOF], b"present\n"), ([THIRD], [THIRD_PROOF], b"present\n"),
+          ([BEFORE], [BEFORE_PROOF], b"absent\n"), ([BETWEEN], [BETWEEN_PROOF], b"absent\n"), ([BEHIND], [BEHIND_PROOF], b"absent\n"),
+          ([SECOND, BETWEEN, SECOND], [SECOND_PROOF, BETWEEN_PROOF, SECOND_PROOF], b"present\nabsent\npresent\n")]
+# entries, texts that do not show all of them, the lines and the notes
+NOT_SHOWN = [
+    # the proof of another record, and of another archive
+    ([FIRST, FIRST], [SECOND_PROOF, FIRST_PROOF], b"not shown\npresent\n", b""), ([FIRST], [b"absent\n\n"], b"not shown\n", b""),
+    # a proof is missing, or cannot be read
+    ([FIRST, SECOND], [FIRST_PROOF], b"present\nnot shown\n", b""),
+    ([FIRST, BETWEEN, SECOND], [FIRST_PROOF, b"x", BETWEEN_PROOF, SECOND_PROOF], b"present\nnot shown\nnot shown\n", b""),
+    # octets follow the last proof
+    ([FIRST], [FIRST_PROOF, b"x"], b"present\n", b"trailing 143\n"), ([], [FIRST_PROOF], b"", b"trailing 0\n"),
+]
+# texts of records that are none, the status and the notes
+NO_RECORDS = [(FIRST + b"x", 1, b"records bad-frame 22\n"), (b"3 <1>", 1, b"records bad-entry 0 syntax version 3\n"),
+              (FIRST * 1025, 2, b"records too-many\n")]
 
 
 def split(entries):
@@ -232,6 +271,47 @@ def refused(program, results):
     results.same("a record in other spellings", program.run(["prove", name], archive_text([canonical])), (0, text, b""))
 
 
+def tables(program, results):
+    """What `root` prints, the proofs of records among three, what they show, and what is no proof and no record."""
+    both, three, head = archive_text(RECORDS[:2]), archive_text(RECORDS), ["3", HASH.decode()]
+    for text, line in [(b"", b"0 " + ROOTS[0].encode()), (both, b"2 " + HASH_OF_TWO), (three, b"3 " + HASH)]:
+        results.same(f"the root: {line}", program.run(["root"], text), (0, line + b"\n", b""))
+    results.same("no root of a cut archive", program.run(["root"], both[:40]), (1, b"", b"bad-frame 40\n"))
+    for entries, texts, lines in PROVED:
+        name, text = program.folder.file("records", b"".join(entries)), b"".join(texts)
+        results.same(f"prove: {lines}", program.run(["prove", name], three), (0, text, b""))
+        results.same(f"confirm: {lines}", program.run(["confirm", *head, name], text), (0, lines, b""))
+    first = program.folder.file("records", FIRST)
+    results.same("nothing is in the empty archive", program.run(["prove", first], b""), (0, b"absent\n\n", b""))
+    results.same("no proof of a cut archive", program.run(["prove", first], both[:40]), (1, b"", b"bad-frame 40\n"))
+    for entries, texts, lines, notes in NOT_SHOWN:
+        name = program.folder.file("records", b"".join(entries))
+        results.same(f"confirm: {lines} {notes}", program.run(["confirm", *head, name], b"".join(texts)), (1, lines, notes))
+    for text, status, notes in NO_RECORDS:
+        name = program.folder.file("records", text)
+        for words in ["prove", name], ["confirm", *head, name]:
+            results.same(f"{words[0]}: {notes}", program.run(words, both), (status, b"", notes))
+
+
+def devices(program, results):
+    """Each read and each write of `root`, `prove` and `confirm` fails in turn, and an output takes so many octets and no more."""
+    both, three, head = archive_text(RECORDS[:2]), archive_text(RECORDS), ["3", HASH.decode()]
+    name = program.folder.file("records", FIRST)
+    for words, octets, inputs, room, front in [(["root"], both, [0], 5, b"2 c4a"), (["prove", name], three, [0, 3], 9, b"present 0"),
+                                               (["confirm", *head, name], FIRST_PROOF, [0, 3], 3, b"pre")]:
+        each_call(program, results, words[0], words, octets, inputs)
+        with open(program.folder.path / "output", "w+b") as output:
+            seen = program.run(words, octets, stdout=output, preexec_fn=functools.partial(within, room))
+            output.seek(0)
+            results.same(f"{words[0]}: an output of {room} octets", (*seen[::2], output.read()), (2, b"write fault\n", front))
+
+
+def within(room):
+    """Lets a process write files of so many octets; a write that goes beyond fails."""
+    signal.signal(signal.SIGXFSZ, signal.SIG_IGN)
+    resource.setrlimit(resource.RLIMIT_FSIZE, (room, room))
+
+
 def proofs(program, results):
     for count, root in enumerate(ROOTS):
         results.check(f"the root of {count} leaves", tree_hash(LEAVES[:count]).hex() == root)
@@ -268,6 +348,8 @@ def proofs(program, results):
             for record, false in [(entries[5], b"absent\n"), (next(it for it in POOL if it not in entries), b"present\n")]:
                 every_octet(random, results, program, head, record, made[record], false)
     if there:
+        tables(program, results)
+        devices(program, results)
         refused(program, results)
         every_tree(program, results)
         many_changed(random, program, results)

@@ -2,7 +2,7 @@
 import re
 
 # what is told of a call that failed
-TOLD = {"open": re.compile(rb"(left|right|old|file \d+) no file\n([^\n]+ \(os error \d+\)\n)?"), "read": re.compile(rb"((left|right|old|file \d+) )?read fault\n"),
+TOLD = {"open": re.compile(rb"(left|right|old|records|file \d+) no file\n([^\n]+ \(os error \d+\)\n)?"), "read": re.compile(rb"((left|right|old|records|file \d+) )?read fault\n"),
         "write": re.compile(rb"write fault\n")}
 
 

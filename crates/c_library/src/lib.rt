@@ -29,8 +29,6 @@ mod scan;
 mod select;
 mod sets;
 mod span;
-#[cfg(test)]
-mod tests;
 mod trim;
 mod value;
 mod view;

@@ -2,14 +2,9 @@
 
 mod archives;
 mod devices;
-mod legacy;
-mod rows;
-mod sending;
-mod streams;
-mod trimmed;
 
 use commands::{MemoryFile, MemoryFiles, run};
-use driver::{DONE, FAULT, REFUSED};
+use driver::FAULT;
 use octet_devices::{FromRead, Input, Output, ToWrite};
 use std::alloc::Global;
 use std::test::Fail;
@@ -96,67 +91,8 @@ fn runs(rt: &HostRuntime, rows: &[Row<'_>]) -> Result<(), Fail> {
 }
 
 #[test]
-fn a_datagram_may_have_262_144_octets(rt: HostRuntime) -> Result<(), Fail> {
-    let mut octets = Vec::from_slice(rt.alloc(), HELLO)?;
-    for _ in HELLO.len()..262_144 {
-        octets.push(b'x')?;
-    }
-    let words: &[&str] = &["convert"];
-    runs(&rt, &[(words, &octets, DONE, &octets, b"")])?;
-    octets.push(b'x')?;
-    runs(&rt, &[(words, &octets, REFUSED, b"", b"1 too-long\n")])
-}
-
-// fails at the first row that is not a usage fault, which has a text of its own
-fn usage_faults(rt: &HostRuntime, input: &[u8], rows: &[&[&str]]) -> Result<(), Fail> {
-    for words in rows {
-        let ran = run_over(rt, words, input)?;
-        if ran.notes.is_empty() {
-            return Err(Fail::new(format_args!("no notes on {words:?}")));
-        }
-        ran.expect(words, FAULT, b"", ran.notes.as_slice())?;
-    }
-    Ok(())
-}
-
-#[test]
-fn other_words_are_a_usage_fault(rt: HostRuntime) -> Result<(), Fail> {
-    let rows: [&[&str]; 28] = [
-        &[],
-        &["--help"],
-        &["help"],
-        &["konvert"],
-        &["convert", "x"],
-        &["convert", "--to", "datagram"],
-        &["convert", "--to", "lf", "--to", "lf"],
-        &["convert", "--framing", "LF"],
-        &["check", "--to", "lf"],
-        &["show", "--framing", ""],
-        &["show", "--framing"],
-        &["archive", "--to", "lf"],
-        &["archive", "a"],
-        &["merge", "a"],
-        &["merge", "a", "b", "c"],
-        &["migrate"],
-        &["archive", "--memory", "0"],
-        &["read", "d", "--to", "-"],
-        &["verify"],
-        &["stat"],
-        &["compact"],
-        &["add"],
-        &["expire", "d"],
-        &["seal", "d"],
-        &["reconcile"],
-        &["answer"],
-        &["backup", "d"],
-        &["serve", "d"],
-    ];
-    usage_faults(&rt, HELLO, &rows)
-}
-
-#[test]
 fn what_only_a_program_has_is_a_fault(rt: HostRuntime) -> Result<(), Fail> {
-    let rows: [(&[&str], &[u8]); 14] = [
+    let rows: [(&[&str], &[u8]); 15] = [
         (&["archive", "--spill", "d"], b"spill fault\n"),
         (&["read", "d"], b"store fault\n"),
         (&["follow", "d"], b"store fault\n"),
@@ -170,6 +106,7 @@ fn what_only_a_program_has_is_a_fault(rt: HostRuntime) -> Result<(), Fail> {
         (&["answer", "d"], b"store fault\n"),
         (&["backup", "d", "e"], b"store fault\n"),
         (&["collect", "udp", "514", "1"], b"socket fault\n"),
+        (&["collect", "udp", "5514", "2"], b"socket fault\n"),
         (&["serve", "d", "--unix", "s"], b"socket fault\n"),
     ];
     for (words, notes) in rows {

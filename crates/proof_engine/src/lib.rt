@@ -18,6 +18,3 @@ pub use confirm::confirm_proofs;
 pub use prove::prove_archive;
 pub use root::root_archive;
 pub use rooting::root_of;
-
-#[cfg(test)]
-mod tests;

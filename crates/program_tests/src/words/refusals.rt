@@ -108,8 +108,20 @@ const REFUSED_FRAMES: [(&[&str], &str); 9] = [
     ),
 ];
 
-const REFUSED_TIMES: [(&[&str], &str); 8] = [
+const REFUSED_TIMES: [(&[&str], &str); 11] = [
     (&["seal", "d"], "error: seal needs a time: --before\n"),
+    (
+        &["expire", "d", "--undated"],
+        "error: expire needs one of --before, --keep and --room\n",
+    ),
+    (
+        &["expire", "d", "--room=1", "--keep=2"],
+        "error: --room cannot be used with --keep\n",
+    ),
+    (
+        &["expire", "d", "--keep=2", "--room=0"],
+        "error: invalid value '0' for --room: expected a number from 1 to 16777216\n",
+    ),
     (
         &["select", "--to=-", "--facility=x"],
         "error: invalid value '-' for --to: expected a time in the years 0 to 9999 of UTC, such \

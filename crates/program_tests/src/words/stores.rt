@@ -116,12 +116,18 @@ fn old_records_are_removed(rt: HostRuntime) -> Result<(), Fail> {
         undated: true,
         dry_run: true,
     };
-    let rows: [(&[&str], ExpireWords); 2] = [
+    let room = ExpireWords {
+        bound: ExpireBound::Room { mib: 16_777_216 },
+        undated: false,
+        dry_run: true,
+    };
+    let rows: [(&[&str], ExpireWords); 3] = [
         (&["expire", "d", "--before", "2026-11-25T10:00:00Z"], before),
         (
             &["expire", "--undated", "--keep=90", "--dry-run", "d"],
             keep,
         ),
+        (&["expire", "d", "--room", "16777216", "--dry-run"], room),
     ];
     for (words, asked_for) in rows {
         assert!(rt; expires(&rt, words, &asked_for), "{words:?}");
@@ -136,6 +142,20 @@ fn old_records_are_removed(rt: HostRuntime) -> Result<(), Fail> {
             &["expire", "d", "--before", "-"],
             &["expire", "d", "--before", "2026-11-25", "--keep", "90"],
             &["expire", "d", "--keep", "90", "--keep", "91"],
+            &["expire", "d", "--room", "0"],
+            &["expire", "d", "--room", "16777217"],
+            &["expire", "d", "--room", "1", "--keep", "90"],
+            &["expire", "d", "--room", "1", "--before", "2026-11-25"],
+            &[
+                "expire",
+                "d",
+                "--room",
+                "1",
+                "--keep",
+                "90",
+                "--before",
+                "2026-11-25",
+            ],
         ],
     )
 }
