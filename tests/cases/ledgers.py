@@ -359,23 +359,6 @@ def is_refused(program, results, path):
     ledgers.is_listed("with its lock")
 
 
-def is_broken_beside_a_server(program, results, path):
-    """A server that cannot go on with its ledger tells where that is damaged, or why its lock was not taken."""
-    for name, told in ("ledger", b"damaged at octet 0"), ("lock.ledger", b"Is a directory"):
-        ledgers = Ledgers(program, results, Path(path) / f"beside {name}")
-        ledgers.add(of_day(20, 0, 3))
-        if name == "ledger":
-            (ledgers.store / name).write_bytes(b"none\n")
-        else:
-            (ledgers.store / name).unlink()
-            (ledgers.store / name).mkdir()
-        with Server(program, ledgers.store, *any_port("counted"), *SOON, "--checkpoint", 1) as server:
-            server.send("counted", *(framed("counted", one) for one in records("broken", 0, 3_000, 800)))
-            results.same(f"{name}: the server ends", server.status(), 2)
-            told_of = str(ledgers.store / name).encode() + b": " + told
-            results.check(f"{name}: it is told", any(line.startswith(told_of) for line in server.lines()), str(server.lines()))
-
-
 def waits(program, results, path):
     """Whoever writes into the ledger waits for another one that does."""
     ledgers = Ledgers(program, results, Path(path) / "waits")
@@ -405,5 +388,4 @@ def ledgers(program, results):
         is_killed_sealing(program, results, path)
         is_shared(program, results, path)
         is_refused(program, results, path)
-        is_broken_beside_a_server(program, results, path)
         waits(program, results, path)
