@@ -60,30 +60,6 @@ def expired(files, undated, hour=HOUR):
     return b"".join(lines), left
 
 
-def fitting(files, mib, undated):
-    """What has to go so that the segments have at most so many MiB: all before a day, and undated ones or not; and how many
-    octets are left without what goes whole. The oldest go first, of which undated ones are where they may go at all; and none
-    that need not."""
-    sizes = Counter()
-    for name in segments_of(files):
-        sizes[SEGMENT.fullmatch(name).group(1)] += len(files[name])
-    left, gone = sum(sizes.values()), []
-    days = sorted(period for period in sizes if period not in (b"undated", b"mixed"))
-    for period in ([b"undated"] if undated else []) + days:
-        if left <= mib << 20:
-            break
-        left -= sizes[period]
-        gone.append(period)
-    dated = [period for period in gone if period != b"undated"]
-    after = (datetime.fromisoformat(dated[-1].decode()) + timedelta(days=1)).strftime("%Y-%m-%d").encode() if dated else b""
-    return after, b"undated" in gone, left
-
-
-def octets_of(files):
-    """How many octets the segments have."""
-    return sum(len(files[name]) for name in segments_of(files))
-
-
 def old_store(seed):
     """A folder of segments of days, mixed and undated ones, and a journal that has old records, too."""
     sent = records(seed, 0, 90)
@@ -108,19 +84,8 @@ class Expiries:
         self.ledger = ledger_of(program, files)
         self.journals = held({name: octets for name, octets in files.items() if JOURNAL.fullmatch(name)})
 
-    bound = ["--before", BEFORE.decode()]
-
     def words(self, undated):
-        return ["expire", str(self.store), *self.bound, *(["--undated"] if undated else [])]
-
-    def rule(self, _, undated):
-        """Up to where the records of such files are old, and whether undated ones are."""
-        return HOUR, undated
-
-    def expired(self, files, undated=False):
-        """The lines that are told of such files, and what is left of them."""
-        hour, are_gone = self.rule(files, undated)
-        return expired(files, are_gone, hour)
+        return ["expire", str(self.store), "--before", BEFORE.decode(), *(["--undated"] if undated else [])]
 
     def run(self, undated=False, **chosen):
         """The answer of a run on a new folder, whose calls are written down."""
@@ -135,13 +100,12 @@ class Expiries:
     def is_between(self, found, undated=False):
         """All that is not expired is held, and nothing that was not."""
         before = held(self.files)
-        hour, are_gone = self.rule(self.files, undated)
-        return found is not None and self.journals | {one for one in before if not is_old(one, are_gone, hour)} <= found <= before
+        return found is not None and self.journals | {one for one in before if not is_old(one, undated)} <= found <= before
 
-    def is_done(self, name, answer, undated=False, files=None):
+    def is_done(self, name, answer, undated=False, lines=None):
         """The lines are told, and the files are those that are to be left."""
-        told, left = self.expired(self.files if files is None else files, undated)
-        self.results.same(name, answer, (0, told, b""))
+        told, left = expired(self.files, undated)
+        self.results.same(name, answer, (0, told if lines is None else lines, b""))
         found = {one: octets for one, octets in files_of(self.store).items() if one != b"lock.compact"}
         self.results.check(f"{name}: files", found == left, f"{sorted(found)} {sorted(left)}")
         self.results.check(f"{name}: names", all(is_named_right(one, found[one]) for one in segments_of(found)))
@@ -155,8 +119,8 @@ class Expiries:
         gone = [one for one in segments_of(self.files) if one not in files]
         told = all(line_of(one, self.files[one]) in output for one in gone)
         self.results.check(f"{name}: what is gone was told", told, f"{gone} {output}")
-        without_draft = {one: octets for one, octets in files.items() if one not in (b"expire.archive", b"lock.compact")}
-        self.is_done(f"{name}: the next one", self.program.run(self.words(False)), files=without_draft)
+        lines, _ = expired({one: octets for one, octets in files.items() if one != b"expire.archive"}, False)
+        self.is_done(f"{name}: the next one", self.program.run(self.words(False)), lines=lines)
 
     def fails(self, counts):
         """Each call fails in turn, and each is the last of the process."""
@@ -213,7 +177,7 @@ class Expiries:
         put_folder(self.store, self.files)
         for undated in False, True:
             answer = self.program.run([*self.words(undated), "--dry-run"])
-            self.results.same(f"a dry run, undated {undated}", answer, (0, self.expired(self.files, undated)[0], b""))
+            self.results.same(f"a dry run, undated {undated}", answer, (0, expired(self.files, undated)[0], b""))
             self.results.check("it changes nothing", {**self.files, b"lock.compact": b""} == files_of(self.store))
 
     def is_damaged(self):
@@ -254,82 +218,6 @@ class Expiries:
             answer = self.program.run(["expire", str(store), "--keep", "30"])
             self.results.same("expiry beside a compaction", answer, (2, b"", b"lock.compact: another process compacts or expires the store\n"))
             self.results.check("it changes nothing", {**self.files, b"lock.compact": b""} == files_of(store))
-
-
-class Fitting(Expiries):
-    """The oldest days go until the segments fit in a MiB."""
-    bound = ["--room", "1"]
-
-    def rule(self, files, undated):
-        return fitting(files, 1, undated)[:2]
-
-
-def sized(times, octets):
-    """An archive of a record of each time, of so many octets."""
-    sent = [b"<13>1 %b h a - - - x" % time for time in times]
-    for _ in range(3):
-        sent[-1] += b"x" * (octets - len(archive_text(sent)))
-        sent[-1] = sent[-1][:len(sent[-1]) - max(0, len(archive_text(sent)) - octets)]
-    assert len(archive_text(sent)) == octets
-    return archive_text(sent)
-
-
-def store_of(segments):
-    """A folder of these segments: what each is called after, the times of its records, and its octets."""
-    texts = [(period, sized(times, octets)) for period, times, octets in segments]
-    return {segment_name(period, text): text for period, text in texts}
-
-
-def times_of(first, *days):
-    """Times of so many days after the first."""
-    return [(first + timedelta(days=day)).strftime("%Y-%m-%dT12:00:00.000000Z").encode() for day in days]
-
-
-FIRST_DAY = datetime(2026, 1, 30, tzinfo=timezone.utc)
-UNIT = 1 << 16
-DAY_UNIT = 1 << 12
-
-
-def few_days():
-    """A folder whose two oldest days have to go for a MiB, of which the mixed segment has records, too."""
-    dated = [(3, 0), (2, 0), (5, 1), (6, 2), (4, 3)]
-    segments = [(day_of(b"<13>1 " + time), [time], units * UNIT + n) for n, (units, day) in enumerate(dated)
-                for time in times_of(FIRST_DAY, day)]
-    return store_of([*segments, (b"undated", [b"-"], UNIT), (b"mixed", [b"-", *times_of(FIRST_DAY, 0, 1, 2, 3)], UNIT)])
-
-
-def many_days(undated, last):
-    """A folder of 300 days of 4 KiB each but the last, with a mixed segment and an undated one."""
-    segments = [(time[:10], [time], DAY_UNIT) for time in times_of(FIRST_DAY, *range(299))]
-    segments += [(time[:10], [time], last) for time in times_of(FIRST_DAY, 299)]
-    return store_of([*segments, (b"undated", [b"-"], undated), (b"mixed", [b"-", *times_of(FIRST_DAY, 0, 150, 298)], DAY_UNIT)])
-
-
-def told_left(store, left, mib):
-    """What is said of what is left."""
-    return b"%b: %d octets of segments are left, more than %d MiB\n" % (str(store).encode(), left, mib) if left > mib << 20 else b""
-
-
-def keeps_within(program, results, path):
-    """A store of 300 days, beside a second reckoning of what has to go."""
-    for n, (undated, last) in enumerate(((1, 0), (1, 1), (16, 0), (260, 0))):
-        files = many_days(undated * DAY_UNIT, DAY_UNIT + last)
-        store = put_folder(Path(path) / f"days {n}", files)
-        for mib in (1, 2, 3):
-            for more in [], ["--undated"]:
-                name = f"room {mib}, {n}, {more}"
-                hour, are_gone, left = fitting(files, mib, bool(more))
-                answer = program.run(["expire", str(store), "--room", str(mib), "--dry-run", *more])
-                results.same(f"{name}: a dry run", answer, (0, expired(files, are_gone, hour)[0], told_left(store, left, mib)))
-        results.check(f"dry runs change nothing, {n}", {**files, b"lock.compact": b""} == files_of(store))
-        for mib, more in (3, ["--undated"]), (2, []), (1, []), (1, ["--undated"]), (1, ["--undated"]):
-            name, files = f"room {mib}, {n}, {more}", {one: text for one, text in files_of(store).items() if one != b"lock.compact"}
-            hour, are_gone, _ = fitting(files, mib, bool(more))
-            lines, left = expired(files, are_gone, hour)
-            answer = program.run(["expire", str(store), "--room", str(mib), *more])
-            results.same(name, answer, (0, lines, told_left(store, octets_of(left), mib)))
-            results.check(f"{name}: files", {**left, b"lock.compact": b""} == files_of(store))
-        shutil.rmtree(store)
 
 
 def rounds_down(program, results, path):
@@ -388,13 +276,5 @@ def expiries(program, results, seed, each=20):
         tried.has_a_damaged_rest()
         tried.is_synced()
         tried.is_locked()
-        fitted = Fitting(program, results, path, few_days())
-        for undated in False, True:
-            fitted.is_done(f"an expiry to a room, undated {undated}", fitted.run(undated), undated)
-        fitted.run()
-        fitted.fails(Counter(call.kind for call in fitted.calls() if call.kind in KINDS))
-        fitted.is_cut(seed, each)
-        fitted.changes_nothing()
-        keeps_within(program, results, path)
         rounds_down(program, results, path)
         is_beside(program, results, path, seed)
