@@ -1,9 +1,11 @@
 //! A disk and the ledger of its store: what is done to segments, and the lines of it.
-ghost use Rattle.std.specs.Prelude.{◌≡◌, ◌<◌, IfOk, IsNone, IsSome, OnOk, length, option_map};
+ghost use Rattle.std.specs.Prelude.{◌≡◌, ◌<◌, IfOk, IsErrOf, IsNone, IsSome, OnOk, length, option_map};
+ghost use Rattle.disk.specs.declared.fault.DiskFault.TheVariants.{Failed};
 ghost use Rattle.disk.specs.Calls.{IsUnchanged};
 ghost use Rattle.journal.specs.Journals.{IsSound, KeepsOrSettlesOthers};
 ghost use Rattle.ledger_disk.specs.Disks.{IsKept, IsSegmentName, KeepsOtherFiles, TellsGone, TellsSeal, ledger_name};
 ghost use Rattle.ledger_disk.specs.Ledgers.{IsLastLine, KeepsLines, ledger_text};
+ghost use Rattle.ledger_disk.specs.declared.purpose.Purpose.TheVariants.{Serve};
 
 use crate::counting::{Counted, count_entries};
 use crate::fault::{ListFault, disk_fault};
@@ -19,22 +21,27 @@ use std::alloc::{AllocError, Global};
 // The most lines of a turn, which are written in one piece: others who write into the ledger wait meanwhile.
 const LINES_A_TURN: usize = 1_024;
 
+// The most names that wait for their lines while a server goes on without them. Those behind are left to the next command
+// that lists what is not listed.
+const WAITING_MAX: usize = 1_024;
+
 /// A disk and the ledger of its store.
 #[derive(Drop)]
 pub(crate) struct LedgerKeeper<D, T> {
     alloc: Global,
     pub(crate) writer: LineWriter<D, T>,
     pub(crate) purpose: Purpose,
-    // the names that have no line yet
+    // the names that have no line yet, and what the first of them were counted to have
     waiting: Vec<FileName>,
+    counts: Vec<Option<Counted>>,
     // what the ledger lists, where it was read
     pub(crate) standing: Option<Standing>,
     // the line of the last segment that others were joined into
     joined: Option<u64>,
     // whether what gets its name is listed, once that is decided
     lists: Option<bool>,
-    // why names that wait were last not listed
-    pub(crate) unlisted_for: Option<ListFault>,
+    // why a server does not list its segments, if it does not
+    unlisted_for: Option<ListFault>,
 }
 
 // What the lines of segments say that were counted, of those that are among names, which are in order.
@@ -75,6 +82,7 @@ impl<D: Disk + Drop, T: Turns + Drop> LedgerKeeper<D, T> {
             writer: LineWriter::new(alloc, disk, turns)?,
             purpose,
             waiting: Vec::new(alloc),
+            counts: Vec::new(alloc),
             standing: None,
             joined: None,
             lists: None,
@@ -232,17 +240,49 @@ impl<D: Disk + Drop, T: Turns + Drop> LedgerKeeper<D, T> {
         answer
     }
 
+    // Tells whether a server lists its segments, where that has changed.
+    fn tell(&mut self, unlisted_for: Option<ListFault>) {
+        if unlisted_for.is_some() != self.unlisted_for.is_some() {
+            self.writer.turns.tell(unlisted_for);
+        }
+        self.unlisted_for = unlisted_for;
+    }
+
+    // What a fault of the ledger is to whoever calls. A server tells it and goes on, unless it waits for room or memory.
+    fn settle(&mut self, purpose: Purpose, fault: ListFault) -> Result<(), DiskFault>
+        ensures goes_on { purpose ≡ Serve → ¬ (IsErrOf result Failed) }
+    {
+        match (purpose, fault) {
+            (_, ListFault::Disk(DiskFault::Full)) => Err(DiskFault::Full),
+            (_, ListFault::Disk(DiskFault::Memory)) => Err(DiskFault::Memory),
+            (Purpose::Serve, fault) => {
+                self.tell(Some(fault));
+                Ok(())
+            }
+            (Purpose::Add | Purpose::Join | Purpose::Expire | Purpose::Seal, fault) => {
+                Err(disk_fault(fault))
+            }
+        }
+    }
+
     // Whether what gets its name is listed.
     fn lists(&mut self) -> Result<bool, DiskFault> {
         if self.purpose != Purpose::Serve {
             return Ok(true);
         }
         if let Some(lists) = self.lists {
-            return Ok(lists);
+            return Ok(lists && self.waiting.len() < WAITING_MAX);
         }
-        let lists = self.writer.begins_ledger()?;
-        self.lists = Some(lists);
-        Ok(lists)
+        match self.writer.begins_ledger() {
+            Ok(lists) => {
+                self.lists = Some(lists);
+                Ok(lists)
+            }
+            Err(fault) => {
+                self.settle(self.purpose, ListFault::Disk(fault))?;
+                Ok(false)
+            }
+        }
     }
 
     // Gives a draft the name of a segment, which waits for its line then.
@@ -267,29 +307,52 @@ impl<D: Disk + Drop, T: Turns + Drop> LedgerKeeper<D, T> {
         }
     }
 
-    // Writes the lines of segments that got their names.
-    fn list_named(&mut self, segments: &[FileName]) -> Result<(), ListFault> {
+    // Counts what segments have, behind those that were counted.
+    fn count_rest(
+        &mut self,
+        segments: &[FileName],
+        counts: &mut Vec<Option<Counted>>,
+    ) -> Result<(), ListFault> {
+        'names: for name in segments.iter().skip(counts.len()) {
+            counts.push(self.count_of(name, false)?)?;
+        }
+        Ok(())
+    }
+
+    // Writes the lines of segments that got their names, each of which is counted once.
+    fn list_named(
+        &mut self,
+        segments: &[FileName],
+        counts: &mut Vec<Option<Counted>>,
+    ) -> Result<(), ListFault> {
+        self.count_rest(segments, counts)?;
         let event = self.coming();
-        'pieces: for piece in segments.chunks(LINES_A_TURN) {
-            let counts = self.counts_of(piece, false)?;
-            self.list_in_turn(piece, &counts, event)?;
+        let counted = counts.chunks(LINES_A_TURN);
+        'pieces: for (piece, counts) in segments.chunks(LINES_A_TURN).zip(counted) {
+            self.list_in_turn(piece, counts, event)?;
         }
         Ok(())
     }
 
     // Writes the lines of the names that wait. If that fails, they wait still.
-    fn list_waiting(&mut self) -> Result<(), DiskFault> {
+    fn list_waiting(&mut self) -> Result<(), DiskFault>
+        ensures goes_on { self.old.purpose ≡ Serve → ¬ (IsErrOf result Failed) }
+    {
         if self.waiting.is_empty() {
             return Ok(());
         }
+        let purpose = self.purpose;
         let waiting = std::mem::replace(&mut self.waiting, Vec::new(self.alloc));
-        let answer = self.list_named(&waiting);
-        self.unlisted_for = answer.err();
-        match answer {
-            Ok(()) => Ok(()),
+        let mut counts = std::mem::replace(&mut self.counts, Vec::new(self.alloc));
+        match self.list_named(&waiting, &mut counts) {
+            Ok(()) => {
+                self.tell(None);
+                Ok(())
+            }
             Err(fault) => {
                 self.waiting = waiting;
-                Err(disk_fault(fault))
+                self.counts = counts;
+                self.settle(purpose, fault)
             }
         }
     }
@@ -388,7 +451,9 @@ impl<D: Disk + Drop, T: Turns + Drop> LedgerKeeper<D, T> {
     }
 
     /// Brings the names to the disk, and then writes the lines of those that wait.
-    pub(crate) fn sync_and_list(&mut self) -> Result<(), DiskFault> {
+    pub(crate) fn sync_and_list(&mut self) -> Result<(), DiskFault>
+        ensures goes_on { self.old.purpose ≡ Serve → IsErrOf result Failed → D.has_failed self.new.writer.disk }
+    {
         self.writer.disk.sync_names()?;
         self.list_waiting()
     }

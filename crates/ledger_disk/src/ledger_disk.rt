@@ -1,10 +1,12 @@
 //! A disk that keeps the ledger of a store.
-ghost use Rattle.std.specs.Prelude.{◌≡◌, IfOk, IsErr, IsNone, IsSome, IsTrue, OnOk, option_map};
+ghost use Rattle.std.specs.Prelude.{◌≡◌, IfOk, IsErr, IsErrOf, IsNone, IsSome, IsTrue, OnOk, option_map};
 ghost use Rattle.disk.specs.Calls.{AtMostSyncs, HasCause, IsUnchanged};
 ghost use Rattle.journal.specs.Journals.{IsSound, KeepsOrSettlesOthers};
 ghost use Rattle.ledger_disk.specs.Disks.{IsKept, IsSegmentName, KeepsOtherFiles, TellsGone, TellsSeal};
 ghost use Rattle.ledger_disk.specs.Disks.{ledger_name, untold};
 ghost use Rattle.ledger_disk.specs.Ledgers.{IsLastLine, KeepsLines, ledger_text};
+ghost use Rattle.disk.specs.declared.fault.DiskFault.TheVariants.{Failed};
+ghost use Rattle.ledger_disk.specs.declared.purpose.Purpose.TheVariants.{Serve};
 
 use crate::fault::ListFault;
 use crate::keeper::LedgerKeeper;
@@ -16,6 +18,10 @@ use std::alloc::{AllocError, Global};
 
 /// A disk over another one, that keeps the ledger of a store: a line for each segment that gets its
 /// name, once that is on the disk, and for each that goes, before it is removed.
+///
+/// A server goes on if its ledger is damaged, cannot be read or written, or is kept by another process: it tells so once
+/// (`Turns::tell`), and the names wait for their lines, at most 1,024 of them. Only for room or memory it waits, as
+/// elsewhere.
 #[derive(Drop)]
 pub struct LedgerDisk<D, T> {
     pub(crate) keeper: LedgerKeeper<D, T>,
@@ -62,11 +68,6 @@ impl<D: Disk + Drop, T: Turns + Drop> LedgerDisk<D, T> {
     /// What its lines are written by, one process after the other.
     pub fn turns(&self) -> &T {
         &self.keeper.writer.turns
-    }
-
-    /// Why the segments that last got their names were not listed, if they were not.
-    pub fn unlisted_for(&self) -> Option<ListFault> {
-        self.keeper.unlisted_for
     }
 
     /// What the ledger lists, where it was read (see `catch_up`).
@@ -201,7 +202,14 @@ impl<D: Disk + Drop, T: Turns + Drop> Disk for LedgerDisk<D, T> {
         noted(&mut self.has_failed, answer)
     }
 
-    fn sync_names(&mut self) -> Result<(), DiskFault> {
+    fn sync_names(&mut self) -> Result<(), DiskFault>
+        // a server goes on where its ledger is damaged, or kept by another process
+        ensures goes_on { self.old.keeper.purpose ≡ Serve → IsErrOf result Failed
+            → D.has_failed self.new.keeper.writer.disk }
+
+        ensures syncs { AtMostSyncs 0 0 0 }
+        ensures cause { HasCause (IsTrue self.old.has_failed) (IsTrue self.new.has_failed) result }
+    {
         let answer = self.keeper.sync_and_list();
         noted(&mut self.has_failed, answer)
     }

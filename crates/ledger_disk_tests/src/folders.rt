@@ -24,10 +24,22 @@ pub(crate) const TWO: &[u8] = b"3 abc12 abcdefghijkl";
 /// A root.
 pub(crate) const ROOT: [u8; 64] = [b'e'; 64];
 
-/// Turns in memory, and how many began that did not end.
+/// Turns in memory, and how many began that did not end. What was told last, and how often something was.
 #[derive(Drop)]
 pub(crate) struct Ticks {
     open: u64,
+    pub(crate) unlisted_for: Option<ListFault>,
+    pub(crate) told: u64,
+}
+
+impl Ticks {
+    fn new() -> Ticks {
+        Ticks {
+            open: 0,
+            unlisted_for: None,
+            told: 0,
+        }
+    }
 }
 
 impl Turns for Ticks {
@@ -45,6 +57,11 @@ impl Turns for Ticks {
 
     fn time(&mut self) -> [u8; TIME_LEN] {
         *b"2026-11-30T20:00:00.000000Z"
+    }
+
+    fn tell(&mut self, unlisted_for: Option<ListFault>) {
+        self.unlisted_for = unlisted_for;
+        self.told = self.told.saturating_add(1);
     }
 }
 
@@ -95,7 +112,7 @@ pub(crate) fn keeping<D: Disk + Drop>(
     disk: D,
     purpose: Purpose,
 ) -> Result<LedgerDisk<D, Ticks>, Fail> {
-    Ok(LedgerDisk::new(alloc, disk, Ticks { open: 0 }, purpose)?)
+    Ok(LedgerDisk::new(alloc, disk, Ticks::new(), purpose)?)
 }
 
 // Gives a file with these octets a name.
@@ -173,13 +190,13 @@ pub(crate) fn stopped(
     Ok(disk.into_inner().into_inner())
 }
 
-/// The octets of a small file; none where there is none.
+/// The octets of a file of at most 256 KiB; none where there is none.
 pub(crate) fn octets_of(
     alloc: Global,
     disk: &mut MemoryDisk,
     name: &[u8],
 ) -> Result<Option<Vec<u8>>, Fail> {
-    let mut piece = vec![in alloc; 0u8; 8192]?;
+    let mut piece = vec![in alloc; 0u8; 1 << 18]?;
     match disk.read(&named(alloc, name)?, 0, &mut piece) {
         Ok(n) => {
             piece.truncate(n);

@@ -1,11 +1,15 @@
 //! Lines of segments that come and go.
 
 use crate::folders::{
-    A, B, C, Step, TWO, folder, keeping, octets_of, put, says, stepped, take_step,
+    A, B, C, Step, TWO, Ticks, folder, keeping, octets_of, put, read, says, stepped, steps,
+    take_step,
 };
-use disk::{DiskFault, MemoryDisk};
-use ledger_disk::{ListFault, Purpose};
+use disk::{Disk, DiskFault, MemoryDisk};
+use ledger_disk::{LedgerDisk, ListFault, Purpose};
 use std::test::Fail;
+
+// how many segments wait for their lines at most
+const WAITING_MAX: u64 = 1_024;
 
 const ADDED: &[u8] =
     b"Z add 2026-11-25.0000000000000000000000000000000000000000000000000000000000000000.archive 2 20";
@@ -109,6 +113,59 @@ fn a_broken_chain_is_told(rt: HostRuntime) -> Result<(), Fail> {
     }
     if take_step(alloc, &mut disk, Step::Remove(A))? != Err(ListFault::Disk(DiskFault::Failed)) {
         return Err(Fail::new("a segment is removed"));
+    }
+    Ok(())
+}
+
+// Whether a server tells this of its ledger, and has told so often.
+fn has_told<D: Disk + Drop>(
+    disk: &LedgerDisk<D, Ticks>,
+    unlisted_for: Option<ListFault>,
+    told: u64,
+) -> bool {
+    disk.turns().unlisted_for == unlisted_for && disk.turns().told == told
+}
+
+#[test]
+fn a_server_goes_on_without_its_ledger(rt: HostRuntime) -> Result<(), Fail> {
+    let alloc = rt.alloc();
+    let mut disk = folder(alloc, &[C])?;
+    put(alloc, &mut disk, b"ledger", b"no line\n")?;
+    let mut disk = keeping(alloc, disk, Purpose::Serve)?;
+    let placed = [Step::Place(A, TWO), Step::Place(B, TWO)];
+    if !steps(alloc, &mut disk, &placed)? {
+        return Err(Fail::new("it does not go on"));
+    }
+    if !has_told(&disk, Some(ListFault::Broken { at: 0 }), 1) {
+        return Err(Fail::new("not told once"));
+    }
+    let renewed = [Step::Remove(b"ledger"), Step::Place(C, TWO)];
+    if !steps(alloc, &mut disk, &renewed)? || !has_told(&disk, None, 2) {
+        return Err(Fail::new("not told that it lists again"));
+    }
+    let mut disk = disk.into_inner();
+    if !says(alloc, &mut disk, &[ADDED, b"archive 2 20", b"archive 2 20"])? {
+        return Err(Fail::new("other lines"));
+    }
+    Ok(())
+}
+
+#[test]
+fn a_server_without_its_ledger_lists_the_first_that_wait(rt: HostRuntime) -> Result<(), Fail> {
+    let alloc = rt.alloc();
+    let mut disk = MemoryDisk::new(alloc);
+    put(alloc, &mut disk, b"ledger", b"no line\n")?;
+    let mut disk = keeping(alloc, disk, Purpose::Serve)?;
+    for _ in 0..WAITING_MAX + 10 {
+        take_step(alloc, &mut disk, Step::Place(A, TWO))?.map_err(|_| "a step failed")?;
+    }
+    let renewed = [Step::Remove(b"ledger"), Step::Place(A, TWO)];
+    if !steps(alloc, &mut disk, &renewed)? {
+        return Err(Fail::new("a step failed"));
+    }
+    let read = read(alloc, &mut disk.into_inner())?;
+    if read.head.number() != WAITING_MAX {
+        return Err(Fail::new("another number of lines"));
     }
     Ok(())
 }

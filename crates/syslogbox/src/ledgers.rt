@@ -2,6 +2,8 @@
 //! it again.
 
 use crate::ago::now_micros;
+use crate::outputs::SharedNotes;
+use crate::telling::Teller;
 use disk::DiskFault;
 use driver::{DONE, FAULT, NO_MEMORY, REFUSED, report};
 use folder_disk::{FileError, FolderLock, LockFault, LockFile};
@@ -9,7 +11,7 @@ use ledger_disk::{ListFault, Turns};
 use ledger_engine::Pause;
 use libc::net::poll;
 use octet_devices::{Output, write_all};
-use std::alloc::Global;
+use std::alloc::{AllocError, Global};
 use std::fmt::Display;
 use std::io::ErrorKind;
 use store_engine::line_on;
@@ -20,6 +22,9 @@ use syslog_value::Instant;
 const TRIES: usize = 1_000;
 
 const TRY_MILLIS: i32 = 10;
+
+// How many times a server tries: its senders wait meanwhile.
+const SERVER_TRIES: usize = 3;
 
 // How many milliseconds lie between two looks at a ledger.
 const LOOK_MILLIS: i32 = 100;
@@ -32,6 +37,8 @@ pub struct SystemTurns<'d> {
     lock: Option<FolderLock>,
     // why the lock was last not taken
     fault: Option<LockFault>,
+    // where a server tells that it does not list its segments
+    notes: Option<SharedNotes<'d>>,
 }
 
 impl<'d> SystemTurns<'d> {
@@ -42,12 +49,43 @@ impl<'d> SystemTurns<'d> {
             dir,
             lock: None,
             fault: None,
+            notes: None,
+        }
+    }
+
+    /// The turns of a server, which waits less, and tells.
+    pub fn of_server(teller: Teller<'d, 'd>, dir: &'d str) -> SystemTurns<'d> {
+        SystemTurns {
+            rt: teller.rt,
+            dir,
+            lock: None,
+            fault: None,
+            notes: Some(teller.notes),
         }
     }
 
     /// Why a turn last did not come, if one did not.
     pub fn fault(&self) -> Option<&LockFault> {
         self.fault.as_ref()
+    }
+}
+
+// The line by which a server tells why it does not list its segments.
+fn unlisted_line(
+    alloc: Global,
+    lock: Option<&LockFault>,
+    fault: ListFault,
+) -> Result<String, AllocError> {
+    let name = LockFile::Ledger.name();
+    match (lock, fault) {
+        (Some(LockFault::Failed(failed)), _) => {
+            format!(in alloc; "{name}: {}: new segments are not listed\n", failed.error)
+        }
+        (Some(held), _) => format!(in alloc; "{name}: {held}: new segments are not listed\n"),
+        (None, ListFault::Broken { at }) => {
+            format!(in alloc; "ledger: damaged at octet {at}: new segments are not listed\n")
+        }
+        (None, fault) => format!(in alloc; "ledger: {fault}: new segments are not listed\n"),
     }
 }
 
@@ -65,7 +103,12 @@ fn fault_of(fault: &LockFault) -> DiskFault {
 
 impl<'d> Turns for SystemTurns<'d> {
     fn begin(&mut self) -> Result<(), DiskFault> {
-        'tries: for _ in 0..TRIES {
+        let tries = if self.notes.is_some() {
+            SERVER_TRIES
+        } else {
+            TRIES
+        };
+        'tries: for _ in 0..tries {
             match FolderLock::take(self.rt, self.dir, LockFile::Ledger) {
                 Ok(lock) => {
                     self.lock = Some(lock);
@@ -95,6 +138,20 @@ impl<'d> Turns for SystemTurns<'d> {
         match Instant::from_micros(now) {
             Some(instant) => canonical_timestamp(instant),
             None => *b"1970-01-01T00:00:00.000000Z",
+        }
+    }
+
+    fn tell(&mut self, unlisted_for: Option<ListFault>) {
+        let Some(notes) = self.notes else {
+            return;
+        };
+        let teller = Teller { rt: self.rt, notes };
+        let Some(fault) = unlisted_for else {
+            return teller.tell("ledger: new segments are listed again\n");
+        };
+        match unlisted_line(self.rt.alloc(), self.fault(), fault) {
+            Ok(line) => teller.tell(line.as_str()),
+            Err(_) => teller.tell("ledger: new segments are not listed\n"),
         }
     }
 }

@@ -108,11 +108,11 @@ fn tell_aside(teller: Teller<'_, '_>, aside: SetAside) -> Result<(), Fault> {
 
 // Opens the store on a disk.
 fn open_keeper<'d>(
-    teller: Teller<'d, '_>,
+    teller: Teller<'d, 'd>,
     dir: &'d str,
     disk: FolderDisk<HostRuntime>,
 ) -> Result<Keeper<'d>, Fault> {
-    let turns = SystemTurns::new(teller.rt, dir);
+    let turns = SystemTurns::of_server(teller, dir);
     let Ok(disk) = LedgerDisk::new(teller.rt.alloc(), disk, turns, Purpose::Serve) else {
         return Err(teller.out_of_memory());
     };
@@ -131,7 +131,7 @@ fn open_keeper<'d>(
 }
 
 /// Opens the store in a folder, which is made where it is missing. Its lock is held as long as its disk.
-pub fn open_store<'d>(teller: Teller<'d, '_>, dir: &'d str) -> Result<Keeper<'d>, Fault> {
+pub fn open_store<'d>(teller: Teller<'d, 'd>, dir: &'d str) -> Result<Keeper<'d>, Fault> {
     let rt = teller.rt;
     let mut disk = match FolderDisk::create(rt, dir) {
         Ok(disk) => disk,

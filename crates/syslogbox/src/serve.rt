@@ -11,8 +11,6 @@ use crate::telling::Teller;
 use crate::time::ServerTime;
 use crate::watched::{Watched, Watcher};
 use driver::{NO_MEMORY, report};
-use folder_disk::LockFile;
-use ledger_disk::ListFault;
 use octet_devices::ToWrite;
 use peer_rules::AllowList;
 use serve_engine::{ServeCounts, ServeEnd, ServeOptions, Server};
@@ -248,24 +246,12 @@ fn serve_options(words: &ServeWords<'_>) -> ServeOptions {
     }
 }
 
-// Tells why the disk of a store failed: its ledger, if that was not written, or else the error of the system.
-fn tell_disk(teller: Teller<'_, '_>, dir: &str, disk: &StoreDisk<'_>) {
-    let _status = match (disk.turns().fault(), disk.unlisted_for()) {
-        (Some(fault), _) => teller.refuse_file(dir, LockFile::Ledger.name(), fault),
-        (None, Some(ListFault::Broken { at })) => {
-            match format!(in teller.rt.alloc(); "damaged at octet {at}") {
-                Ok(why) => teller.refuse_file(dir, "ledger", why.as_str()),
-                Err(_) => teller.out_of_memory(),
-            }
-        }
-        _ => teller.refuse_disk(dir, disk.disk(), "the disk failed"),
-    };
-}
-
 // Tells why serving ended, where it did not finish.
 fn tell_end(teller: Teller<'_, '_>, dir: &str, end: ServeEnd, disk: &StoreDisk<'_>) {
     match end {
-        ServeEnd::Disk => tell_disk(teller, dir, disk),
+        ServeEnd::Disk => {
+            let _status = teller.refuse_disk(dir, disk.disk(), "the disk failed");
+        }
         ServeEnd::Memory => {
             let _status = teller.out_of_memory();
         }
@@ -339,7 +325,7 @@ fn collect<'t>(
 }
 
 // Opens what is asked for, and collects.
-fn run(teller: Teller<'_, '_>, words: &ServeWords<'_>) -> Result<u8, Fault> {
+fn run<'t>(teller: Teller<'t, 't>, words: &ServeWords<'_>) -> Result<u8, Fault> {
     if is_unfinished(teller.rt, words.dir) {
         return Err(teller.refuse(
             words.dir,
