@@ -210,6 +210,11 @@ def is_torn(ledgers):
     ledgers.results.check("it goes on where the last whole line ended", file.read_bytes().startswith(whole))
 
 
+def send_for_checkpoint(server, name, part):
+    """Sends records of more than 1 MiB, so that a checkpoint comes; those of each part are others."""
+    server.send("counted", *(framed("counted", one) for one in records(name, 9_000 * part, 9_000, 800)))
+
+
 def is_caught_up(program, results, path):
     """A store from before gets its ledger by the first command that writes, and a server leaves that to it."""
     files = {segment_name(b"2026-11-%02d" % day, text): text
@@ -222,8 +227,8 @@ def is_caught_up(program, results, path):
         shutil.rmtree(ledgers.store)
     ledgers = Ledgers(program, results, put_folder(Path(path) / "before", files))
     with Server(program, ledgers.store, *any_port("counted"), *SOON, "--checkpoint", 1) as server:
-        server.send("counted", *(framed("counted", one) for one in records("before", 0, 3_000, 800)))
-        until(lambda: len(segments_in(ledgers.store)) > 2)
+        send_for_checkpoint(server, "before", 0)
+        results.check("a checkpoint is made", until(lambda: len(segments_in(ledgers.store)) > 2))
     results.check("a server makes no ledger beside segments without one", not (ledgers.store / "ledger").exists())
     results.same("verify", ledgers.run("verify"), (0, b"", b""))
 
@@ -359,6 +364,55 @@ def is_refused(program, results, path):
     ledgers.is_listed("with its lock")
 
 
+def is_broken_beside_a_server(program, results, path):
+    """A server goes on where its ledger is damaged or cannot be locked: it tells so once, and lists what came meanwhile once
+    it can."""
+    def intruder(store):
+        (store / "lock.ledger").unlink()
+        (store / "lock.ledger").mkdir()
+
+    cases = {"a damaged ledger": (lambda store: (store / "ledger").write_bytes(b"none\n"), lambda store: (store / "ledger").rename(store / "damaged.ledger"),
+                                  b"ledger: damaged at octet 0: new segments are not listed"),
+             "a lock that is a folder": (intruder, lambda store: (store / "lock.ledger").rmdir(),
+                                         b"lock.ledger: Is a directory (os error 21): new segments are not listed")}
+    for name, (breaks, mends, told) in cases.items():
+        ledgers = Ledgers(program, results, Path(path) / name)
+        ledgers.add(of_day(20, 0, 3))
+        breaks(ledgers.store)
+        with Server(program, ledgers.store, *any_port("counted"), *SOON, "--checkpoint", 1) as server:
+            for part in range(3):
+                send_for_checkpoint(server, name, part)
+                results.check(f"{name}: checkpoint {part}", until(lambda: len(segments_in(ledgers.store)) > 1 + part))
+            results.same(f"{name}: it is told once", server.lines(), [told])
+            mends(ledgers.store)
+            send_for_checkpoint(server, name, 3)
+            results.check(f"{name}: it lists again", server.until_told(b"ledger: new segments are listed again"))
+            results.check(f"{name}: it serves", server.process.poll() is None)
+        results.same(f"{name}: compact", ledgers.run("compact"), (0, b"", b""))
+        ledgers.is_listed(f"{name}: caught up")
+
+
+def is_kept_from_a_server(program, results, path):
+    """A server does not wait for whoever keeps the ledger's lock: its checkpoints and commits go on."""
+    store = Path(path) / "kept"
+    ledgers = Ledgers(program, results, store)
+    ledgers.add(of_day(20, 0, 3))
+    with open(store / "lock.ledger", "wb") as lock, Server(program, store, *any_port("counted"), *SOON, "--checkpoint", 1) as server:
+        fcntl.flock(lock, fcntl.LOCK_EX)
+        begun = time.monotonic()
+        send_for_checkpoint(server, "kept", 0)
+        results.check("a checkpoint is made", until(lambda: len(segments_in(store)) > 1))
+        sent = records("behind", 0, 1, 100)
+        server.send("counted", *(framed("counted", one) for one in sent))
+        results.check("what comes then is committed", until(lambda: set(sent) <= server.held()))
+        results.check("neither waits for the lock", time.monotonic() - begun < 8, f"{time.monotonic() - begun:.1f} s")
+        results.same("it is told once", server.lines(), [b"lock.ledger: the lock is held by another process: new segments are not listed"])
+        fcntl.flock(lock, fcntl.LOCK_UN)
+        send_for_checkpoint(server, "kept", 1)
+        results.check("it lists again", server.until_told(b"ledger: new segments are listed again"))
+        results.same("the segments of both checkpoints are listed", until(lambda: not is_right(store)), True)
+
+
 def waits(program, results, path):
     """Whoever writes into the ledger waits for another one that does."""
     ledgers = Ledgers(program, results, Path(path) / "waits")
@@ -388,4 +442,6 @@ def ledgers(program, results):
         is_killed_sealing(program, results, path)
         is_shared(program, results, path)
         is_refused(program, results, path)
+        is_broken_beside_a_server(program, results, path)
+        is_kept_from_a_server(program, results, path)
         waits(program, results, path)
