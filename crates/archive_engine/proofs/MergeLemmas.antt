@@ -24,7 +24,7 @@ use Rattle.driver.specs.Devices.{Reports}
 use Rattle.driver.specs.Effects.{Done, status_of}
 use Rattle.driver.specs.declared.status.TheConstants.{DONE, FAULT, NO_MEMORY}
 use Rattle.archive_engine.specs.Answered.{AnswersWith}
-use Rattle.archive_engine.specs.FaultLines.{fault_line}
+use Rattle.archive_reports.specs.FaultLines.{fault_line}
 use Rattle.archive_engine.specs.Merged.{IsMerged, IsRefusal, IsRefused, IsSecondAbove, MergeDone, RanMerge, RanOutOfMemory}
 use Rattle.archive_engine.specs.Merged.{WritesFronts}
 use Rattle.archive_engine.specs.Merged.{merge_devices, merge_line, merge_status, refused_behind}

@@ -24,7 +24,7 @@ use Rattle.driver.specs.declared.status.TheConstants.{DONE, FAULT, NO_MEMORY, RE
 use Rattle.driver.specs.declared.stopped.Stopped.{Stopped}
 use Rattle.driver.specs.declared.stopped.Stopped.TheVariants.{Diagnostics, Endless, Memory, Read, Write}
 use Rattle.archive_engine.specs.Answered.{WritesPrefixOf}
-use Rattle.archive_engine.specs.FaultLines.{fault_line}
+use Rattle.archive_reports.specs.FaultLines.{fault_line}
 use Rattle.archive_engine.specs.Migrated.{MigrateDone, MigrateEndsAs, RanMigrate, noted_fault}
 use Rattle.archive_engine.proofs.WrittenLemmas.{nothing_written}
 

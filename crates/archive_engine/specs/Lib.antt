@@ -1,6 +1,5 @@
 pub mod Answered
 pub mod Archived
-pub mod FaultLines
 pub mod Gathering
 pub mod GatheringLaws
 pub mod Merged

@@ -19,7 +19,7 @@ use Rattle.driver.specs.Devices.{Reports}
 use Rattle.driver.specs.Effects.{Done}
 use Rattle.driver.specs.declared.status.TheConstants.{DONE, FAULT, NO_MEMORY, REFUSED}
 use Rattle.archive_engine.specs.Answered.{AnswersWith}
-use Rattle.archive_engine.specs.FaultLines.{fault_line}
+use Rattle.archive_reports.specs.FaultLines.{fault_line}
 
 -- both texts are archives, and the text of their union goes out
 pub record IsMerged (x y : List ℕ) (d : Done) : Type 0 where

@@ -14,7 +14,7 @@ use Rattle.driver.specs.declared.status.TheConstants.{FAULT, NO_MEMORY}
 use Rattle.driver.specs.declared.stopped.Stopped.{Stopped}
 use Rattle.driver.specs.declared.stopped.Stopped.TheVariants.{Diagnostics, Endless, Memory, Read, Write}
 use Rattle.archive_engine.specs.Answered.{WritesPrefixOf}
-use Rattle.archive_engine.specs.FaultLines.{fault_line}
+use Rattle.archive_reports.specs.FaultLines.{fault_line}
 
 -- a refusal whose line is noted
 abbrev pub noted_fault : List ℕ → ArchiveFault → Done

@@ -7,7 +7,6 @@ mod archive;
 mod archive_datagram;
 mod archive_spilled;
 mod archive_stream;
-mod faults;
 mod gathered_stream;
 mod gathering;
 mod merge;
@@ -16,6 +15,5 @@ mod spill_stop;
 
 pub use archive::archive_input;
 pub use archive_spilled::{SPILLED_READ_MAX, archive_spilled_input};
-pub use faults::report_archive_fault;
 pub use merge::merge_archives;
 pub use migrate::migrate_archive;

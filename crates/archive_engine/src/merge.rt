@@ -4,7 +4,7 @@ ghost use Rattle.std.specs.Prelude.{◌⊎◌, codes};
 ghost use Rattle.driver.specs.Devices.{Reports};
 ghost use Rattle.archive_engine.specs.Merged.{IsRefusal, RanMerge, merge_devices, merge_line, merge_status};
 
-use crate::faults::report_archive_fault;
+use archive_reports::report_archive_fault;
 use archive_streams::{MergeFault, Side, merge_streams};
 use driver::{DONE, FAULT, NO_MEMORY, REFUSED, report};
 use octet_devices::{Input, Output};

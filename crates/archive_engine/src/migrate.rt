@@ -3,8 +3,8 @@
 ghost use Rattle.driver.specs.Devices.{devices};
 ghost use Rattle.archive_engine.specs.Migrated.{RanMigrate};
 
-use crate::faults::report_archive_fault;
 use archive_migration::{ReadFault, migrate};
+use archive_reports::report_archive_fault;
 use driver::{DONE, FAULT, NO_MEMORY, REFUSED, report};
 use octet_devices::{Input, Output, ReadAllFault, read_all, write_all};
 use std::alloc::Global;

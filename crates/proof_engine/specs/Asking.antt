@@ -3,7 +3,7 @@ use Rattle.std.specs.Prelude.{◌≡◌, ℕ, ◌≤◌, List, [], ◌++◌, Res
 use Rattle.std.specs.List.{AllByRecursion}
 use Rattle.octet_devices.specs.Device.{InputState, count_on}
 use Rattle.archive_text.specs.Entries.{Entry, IsEntry}
-use Rattle.archive_engine.specs.FaultLines.{fault_words}
+use Rattle.archive_reports.specs.FaultLines.{fault_words}
 use Rattle.archive_proof.specs.Asking.{AreAskedIn, IsRecordsFault}
 use Rattle.archive_proof.specs.declared.records.RecordsFault.{RecordsFault}
 use Rattle.archive_proof.specs.declared.records.RecordsFault.TheVariants as records

@@ -8,7 +8,7 @@ use Rattle.archive_join.specs.Joined.{Joined, Stopped}
 use Rattle.archive_join.specs.Keeping.{DoAllHave, HasFirstAlone, HasOneOfTwo, diff_line}
 use Rattle.archive_join.specs.declared.fault.JoinFault.{JoinFault}
 use Rattle.archive_join.specs.declared.fault.JoinFault.TheVariants.{Archive, Read, Endless, Write, Memory}
-use Rattle.archive_engine.specs.FaultLines.{fault_words}
+use Rattle.archive_reports.specs.FaultLines.{fault_words}
 use Rattle.driver.specs.declared.status.TheConstants.{DONE, FAULT, NO_MEMORY, REFUSED}
 use Rattle.driver.specs.Ended.{EndsAs, Telling}
 use Rattle.set_engine.specs.declared.combination.Combination.{Combination}

@@ -5,7 +5,7 @@ use Rattle.archive_sets.specs.Failures.{TellsFailures}
 use Rattle.archive_sets.specs.Selected.{Selected, Stopped}
 use Rattle.archive_sets.specs.declared.fault.SelectFault.{SelectFault}
 use Rattle.archive_sets.specs.declared.fault.SelectFault.TheVariants.{Archive, Read, Endless, Write, Memory}
-use Rattle.archive_engine.specs.FaultLines.{fault_words}
+use Rattle.archive_reports.specs.FaultLines.{fault_words}
 use Rattle.driver.specs.Devices.{Devices}
 use Rattle.driver.specs.declared.status.TheConstants.{DONE, FAULT, NO_MEMORY, REFUSED}
 use Rattle.driver.specs.Ended.{EndsAs, Telling}

@@ -3,11 +3,11 @@
 ghost use Rattle.std.specs.Prelude.{◌≡◌, ◌++◌, IfOk, codes, map};
 ghost use Rattle.set_engine.specs.Combining.{RanJoin, RanJoinBy, input_words, join_telling};
 ghost use Rattle.set_engine.specs.Combining.{joined_status, refused_status};
-ghost use Rattle.archive_engine.specs.FaultLines.{fault_words};
+ghost use Rattle.archive_reports.specs.FaultLines.{fault_words};
 ghost use Rattle.driver.specs.Ended.{Tells, TellsLine};
 
 use crate::combination::Combination;
-use archive_engine::report_archive_fault;
+use archive_reports::report_archive_fault;
 use archive_join::{Common, Diff, JoinFault, Kept, Minus, Union, join_streams};
 use archive_text::ArchiveFault;
 use driver::{DONE, FAULT, NO_MEMORY, REFUSED, report};

@@ -4,7 +4,7 @@ ghost use Rattle.driver.specs.Devices.{devices};
 ghost use Rattle.driver.specs.Ended.{Tells};
 ghost use Rattle.set_engine.specs.Selecting.{RanSelect, select_telling};
 
-use archive_engine::report_archive_fault;
+use archive_reports::report_archive_fault;
 use archive_sets::{Condition, SelectFault, select_stream};
 use driver::{DONE, FAULT, NO_MEMORY, REFUSED, report};
 use octet_devices::{Input, Output};

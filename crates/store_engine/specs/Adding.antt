@@ -3,7 +3,7 @@ use Rattle.std.specs.Prelude.{◌≡◌, ◌⊎◌, ℕ, List, ◌++◌, Result,
 use Rattle.disk.specs.States.{State}
 use Rattle.octet_devices.specs.Device.{InputState, OutputState}
 use Rattle.syslog_fields.specs.Canonical.{TimeForm}
-use Rattle.archive_engine.specs.FaultLines.{fault_words}
+use Rattle.archive_reports.specs.FaultLines.{fault_words}
 use Rattle.archive_streams.specs.declared.fault.InputFault.TheVariants.{Device, Endless}
 use Rattle.archive_streams.specs.declared.fault.SideFault.TheVariants.{Archive, Input as Of_reader}
 use Rattle.driver.specs.Devices.{Reports}

@@ -1,6 +1,6 @@
 -- The lines on a store's files.
 use Rattle.std.specs.Prelude.{ℕ, List, ◌++◌, codes, decimal, flat_map}
-use Rattle.archive_engine.specs.FaultLines.{fault_line}
+use Rattle.archive_reports.specs.FaultLines.{fault_line}
 use Rattle.record_store.specs.declared.journal_damage.JournalDamage.{JournalDamage}
 use Rattle.record_store.specs.declared.journal_damage.JournalDamage.TheVariants.{Archive as No_entry, Checksum, Hidden}
 use Rattle.store_reading.specs.declared.fault.FileFault.{FileFault}

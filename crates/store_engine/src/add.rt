@@ -6,7 +6,7 @@ ghost use Rattle.store_engine.specs.Adding.{IsAddedLine, RanAdd, TellsAdded, Tel
 ghost use Rattle.store_engine.specs.Reading.{disk_line, disk_status};
 
 use crate::read::report_damage;
-use archive_engine::report_archive_fault;
+use archive_reports::report_archive_fault;
 use archive_streams::{EntriesFault, InputFault};
 use disk::{Disk, DiskFault};
 use driver::{DONE, FAULT, NO_MEMORY, REFUSED, report};

@@ -1,13 +1,13 @@
 //! The lines on a store's files.
 ghost use Rattle.std.specs.Prelude.{◌≡◌, ◌++◌, ◌⊎◌, ◌↔◌, IfErr, IfOk, IsTrue, codes};
 ghost use Rattle.driver.specs.Devices.{Reports};
-ghost use Rattle.archive_engine.specs.FaultLines.{fault_line};
+ghost use Rattle.archive_reports.specs.FaultLines.{fault_line};
 ghost use Rattle.driver.specs.Ended.{TellsLine};
 ghost use Rattle.store_engine.specs.Lines.{damage_line, file_line, position_line};
 ghost use Rattle.store_engine.specs.NoStores.{IsOfMemory};
 
 use crate::printed::line_on;
-use archive_engine::report_archive_fault;
+use archive_reports::report_archive_fault;
 use archive_text::ArchiveFault;
 use driver::{FAULT, NO_MEMORY, REFUSED, report};
 use folder_disk::{FileError, FolderFault, FolderPath};

@@ -2,7 +2,7 @@
 
 ghost use Rattle.std.specs.Prelude.{◌≡◌, ◌++◌, ◌⊎◌, IfOk, OnOk, codes, decimal};
 ghost use Rattle.driver.specs.Devices.{Reports};
-ghost use Rattle.archive_engine.specs.FaultLines.{fault_words};
+ghost use Rattle.archive_reports.specs.FaultLines.{fault_words};
 
 use archive_text::ArchiveFault;
 use driver::{NO_MEMORY, report};
