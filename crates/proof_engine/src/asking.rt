@@ -6,8 +6,8 @@ ghost use Rattle.driver.specs.Ended.{Tells};
 ghost use Rattle.proof_engine.specs.Asking.{AskingFailures, HasAsked, IsNotAsked, asking_telling};
 
 use crate::bounded::{TextFault, read_text};
-use archive_reports::report_archive_fault;
 use archive_proof::{AskedRecord, RecordsFault, read_records};
+use archive_reports::report_archive_fault;
 use archive_text::ArchiveFault;
 use driver::{FAULT, NO_MEMORY, REFUSED, report};
 use octet_devices::{Input, Output};

@@ -7,8 +7,8 @@ ghost use Rattle.archive_reports.specs.FaultLines.{fault_words};
 ghost use Rattle.driver.specs.Ended.{Tells, TellsLine};
 
 use crate::combination::Combination;
-use archive_reports::report_archive_fault;
 use archive_join::{Common, Diff, JoinFault, Kept, Minus, Union, join_streams};
+use archive_reports::report_archive_fault;
 use archive_text::ArchiveFault;
 use driver::{DONE, FAULT, NO_MEMORY, REFUSED, report};
 use itoa::Buffer;
