@@ -1,12 +1,10 @@
 -- A reading of files that are the same where a folder tells them.
 use Rattle.std.proofs.Common.{◌≡◌, ℕ, Option, None, Some, inl, inr, refl, subst}
-use Rattle.std.specs.Prelude.{IfErr, IsSome}
 use Rattle.disk.specs.States.{Files}
 use Rattle.octet_devices.specs.Device.{OutputState}
 use Rattle.driver.specs.Ended.{EndsAs}
 use Rattle.archive_sets.specs.declared.range.InRange.{InRange}
-use Rattle.store_reading.proofs.Causing.{cause_weaker}
-use Rattle.store_reading.specs.Causes.{IsCause, IsDamagedOf, reading_causes}
+use Rattle.store_reading.proofs.Causing.{reading_result}
 use Rattle.store_reading.specs.Sets.{WritesPart, WritesSet}
 use Rattle.store_reading.specs.Whole.{IsWholeIn}
 use Rattle.store_reading.specs.declared.fault.ReadFault.{ReadFault}
@@ -35,24 +33,12 @@ module _ (tells failed : Type 0) (range : InRange) (old new : Files) (same : tel
     ends.1,
   )
 
-  cause_same : (ending : Option ReadFault) → IfErr (result_of ending) (IsCause (reading_causes tells failed old range))
-      → IfErr (result_of ending) (IsCause (reading_causes tells failed new range))
-  cause_same None cause = tt
-  cause_same (Some fault) cause =
-      cause_weaker (reading_causes tells failed old range) (reading_causes tells failed new range) (λ f. f)
-      (λ name is. record {
-        counts = is.counts;
-        there = λ t. subst (λ (files : Files). IsSome (files name)) (same t) (is.there t);
-      })
-      (λ name damage is t. subst (λ (files : Files). IsDamagedOf files range name damage) (same t) (is t)) (λ f. f) fault
-      cause
-
   pub ran_same : (w w_new n n_new : OutputState) (status : ℕ) → RanRead tells failed old range w w_new n n_new status
       → RanRead tells failed new range w w_new n n_new status
   ran_same w w_new n n_new status ran = record {
     ending = ran.ending;
     outcome = ends_same w w_new n n_new status ran.ending ran.outcome;
-    cause = cause_same ran.ending ran.cause;
+    cause = reading_result tells tells failed old new range (result_of ran.ending) (λ t. t) same ran.cause;
     writer = ran.writer;
   }
 
