@@ -34,7 +34,8 @@ _syslogbox_options() {
             ;;
         read)
             echo "--from --to --undated --only-undated --severity --facility --host --app --proc --msgid --id"
-            echo "--message --host-like --app-like --not-host --not-app --not-message --last --as --color --help"
+            echo "--message --host-like --app-like --not-host --not-app --not-message --last --as --color --partial"
+            echo "--help"
             ;;
         follow)
             echo "--from --to --undated --only-undated --severity --facility --host --app --proc --msgid --id"

@@ -80,6 +80,7 @@ complete -c syslogbox -n "__fish_seen_subcommand_from prove confirm" -F
 complete -c syslogbox -n "__fish_seen_subcommand_from read follow verify stat compact expire seal reconcile answer backup" -a '(__fish_complete_directories)'
 complete -c syslogbox -n "__fish_seen_subcommand_from read" -l last -x -d 'Only the last so many of these records'
 complete -c syslogbox -n "__fish_seen_subcommand_from read" -l as -x -a 'archive lines json show' -d 'What is written'
+complete -c syslogbox -n "__fish_seen_subcommand_from read" -l partial -d 'Tell each damaged file, and write what the other files hold'
 complete -c syslogbox -n "__fish_seen_subcommand_from follow" -l from-start -d 'Begin with the records that the store\'s journals hold'
 complete -c syslogbox -n "__fish_seen_subcommand_from follow serve" -l until-eof -d 'End when standard input ends'
 complete -c syslogbox -n "__fish_seen_subcommand_from verify" -l against -x -d 'Also see that the ledger still has this line, which seal printed'

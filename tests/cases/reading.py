@@ -1,5 +1,5 @@
 """`read` with conditions, `--last`, `--as` and `--color`, beside the second reader: random words over random stores, which `add`
-and the trial program have made; long records, undated ones, and those with a line feed; damaged segments, devices that are full,
+and the trial program have made; long records, undated ones, and those with a line feed; damaged files, told or left out, devices that are full,
 readers that leave, and each allocation failing in turn; and words that are none."""
 import os
 import subprocess
@@ -8,6 +8,7 @@ import time
 from pathlib import Path
 
 from cases.algebra import ON_INPUT
+from cases.damaged_journals import place_of
 from cases.terminal import COLORS, on_terminal, painted
 from hostile.archives import POOL, conditions
 from hostile.records import Maker
@@ -15,7 +16,7 @@ from lib import algebra as second
 from lib.faults import each_allocation
 from lib.loopback import NEVER
 from lib.reference import ENTRY_MAX, SEVERITIES, Answers, archive_read, archive_text, counted, show, timestamp
-from lib.store_format import segment_name
+from lib.store_format import damage, held, open_batch, seal_of, segment_name
 from lib.stores import Keeper, put_folder, records
 
 SEED, STORES, RUNS = 44, 14, 40
@@ -210,6 +211,58 @@ def damaged(program, results, folder):
             results.same(f"{path.name}: a range", (seen[0], seen[2]), (plain[0], plain[2]))
 
 
+def whole_files():
+    """Files of a store by their names, each with records of its own: segments of days, a mixed one, and a journal of two batches."""
+    files = {}
+    for day in DAYS:
+        text = archive_text([dated(day, b"%d" % n) for n in range(9)])
+        files[segment_name(day, text)] = text
+    mixed = archive_text([dated(day, b"mixed") for day in DAYS] + [b"<14>1 - h reading - - - undated"])
+    files[segment_name(b"mixed", mixed)] = mixed
+    bodies = [archive_text([dated(day, b"journal")]) for day in DAYS[:2]]
+    files[b"journal.1"] = b"".join(open_batch(body + seal_of(body)) for body in bodies)
+    return files
+
+
+def line_on(name, octets):
+    """The line on a file that is damaged; nothing of one that is whole."""
+    wrong = place_of(octets) if name.startswith(b"journal.") else damage(name, octets)
+    return name + b" " + wrong.encode() + b"\n" if wrong else b""
+
+
+def flipped(octets, at):
+    return octets[:at] + bytes([octets[at] ^ 1]) + octets[at + 1:]
+
+
+def partial(program, results, folder):
+    """With --partial each damaged file is told, and what the others hold is written, in each form; without damage it changes nothing."""
+    files = whole_files()
+    rows = [("no file", {})]
+    for name, octets in files.items():
+        rows += [(f"{name.decode()} at {at}", {name: flipped(octets, at)}) for at in (9, len(octets) // 2, len(octets) - 1)]
+    rows.append(("all files", {name: flipped(octets, len(octets) // 2) for name, octets in files.items()}))
+    for n, (kind, others) in enumerate(rows):
+        found = {**files, **others}
+        path = str(put_folder(folder / f"partial {n}", found))
+        notes = b"".join(line_on(name, found[name]) for name in sorted(found))
+        text = archive_text(sorted(held({name: octets for name, octets in found.items() if not line_on(name, octets)})))
+        results.same(f"partial, {kind}: as many lines as damaged files", notes.count(b"\n"), len(others))
+        for form in FORMS:
+            for given, last in (ALL, None), (ALL, 5), (second.Conditions(host=[b"h"]), None):
+                words = [*given.words(), *([f"--last={last}"] if last else []), f"--as={form}"]
+                right = written(chosen(text, given, last), form)[1]
+                seen = program.run(["read", path, "--partial", *words])
+                results.same(f"partial, {kind}: {words}", seen, (1 if others else 0, right, notes))
+        if not others:
+            results.same("partial, no file: as without it", program.run(["read", path, "--partial"]), program.run(["read", path]))
+    name = next(one for one in files if one.startswith(DAYS[2]))
+    path = str(put_folder(folder / "partial, a range", {**files, name: flipped(files[name], 9)}))
+    of_other_days = [f"--from={DAYS[0].decode()}", f"--to={DAYS[2].decode()}"]
+    seen = program.run(["read", path, "--partial", *of_other_days])
+    results.same("partial: a day outside the range is not told", seen, program.run(["read", path, *of_other_days]))
+    results.same("partial: and ends it as whole", (seen[0], seen[2]), (0, b""))
+
+
 def devices(program, results, folder):
     """A full device, a reader that has left, and one that leaves."""
     sent = [dated(DAYS[1], b"%06d %b" % (n, b"x" * 200)) for n in range(3_000)]
@@ -236,7 +289,7 @@ def memory(program, results, folder):
     """Each allocation fails in turn."""
     sent = [dated(day, b"%d" % n) for day in DAYS for n in range(4)] + [dated(DAYS[2], b"a\nb"), POOL[1]]
     store = Store(program, results, added(program, folder / "memory", sent), sent)
-    for words in ["--host=h"], ["--last=3"], *(["--as=" + form, "--not-message=2"] for form in FORMS[1:]), ["--as=json", "--last=5", "--host-like=*"]:
+    for words in ["--host=h"], ["--partial"], ["--last=3"], *(["--as=" + form, "--not-message=2"] for form in FORMS[1:]), ["--as=json", "--last=5", "--host-like=*"]:
         each_allocation(program, results, f"read {' '.join(words)}", ["read", store.path, *words])
 
 
@@ -251,7 +304,7 @@ def usage(program, results, folder):
     for words in [["--last"], ["--last="], ["--last=0"], ["--last=00"], ["--last=1000001"], ["--last=-1"], ["--last=1.5"], ["--last=x"], ["--last=+1"],
                   ["--last=1", "--last=1"], ["--last=18446744073709551617"], ["--as"], ["--as="], ["--as=xml"], ["--as=Lines"], ["--as=lines,json"],
                   ["--as=json", "--as=json"], ["--json"], ["--lines"], ["--color"], ["--color="], ["--color=red"], ["--color=Always"],
-                  ["--color=never", "--color=never"], ["--quiet"], ["--framing=lf"], [store], ["--top=1"]]:
+                  ["--color=never", "--color=never"], ["--partial=yes"], ["--partial", "--partial"], ["--quiet"], ["--framing=lf"], [store], ["--top=1"]]:
         seen = program.run(["read", store, *words])
         results.check(f"words that are none: read {words}", seen[:2] == (2, b"") and seen[2], str(seen))
     for words in ["read"], ["read", "--last=1"], ["read", "--as=lines"]:
@@ -274,6 +327,7 @@ def reading(program, trial, results):
         ago(program, results, folder)
         colors(program, results, folder)
         damaged(program, results, folder)
+        partial(program, results, folder)
         devices(program, results, folder)
         memory(program, results, folder)
         usage(program, results, folder)

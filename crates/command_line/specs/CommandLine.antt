@@ -190,8 +190,8 @@ long_app name = with_quiet_rule (folder_app name)
 -- the command that writes the records of a store
 abbrev pub read_app : App
 read_app =
-    with_color_rule (with_rule (with_rule (with_condition_rules (folder_app (codes "read"))) (option_rule (codes "last")))
-    (default_rule (codes "as") (codes "archive")))
+    with_rule (with_color_rule (with_rule (with_rule (with_condition_rules (folder_app (codes "read")))
+    (option_rule (codes "last"))) (default_rule (codes "as") (codes "archive")))) (flag_rule (codes "partial"))
 
 -- the command that writes the records of a store as they come
 abbrev pub follow_app : App

@@ -3,7 +3,7 @@ use Rattle.std.specs.Prelude.{List, Option, Some, None, codes, if◌then◌else�
 use Rattle.std.specs.Str.{bytes_eq}
 use Rattle.clap.specs.Walk.{Row, Text, first_of}
 use Rattle.option_values.specs.Numbers.{number_in}
-use Rattle.option_values.specs.Values.{optional}
+use Rattle.option_values.specs.Values.{is_given_in, optional}
 use Rattle.command_line.specs.declared.request.ColorWhen.{ColorWhen}
 use Rattle.command_line.specs.declared.request.ColorWhen.TheVariants as color
 use Rattle.command_line.specs.declared.request.ReadForm.{ReadForm}
@@ -40,4 +40,5 @@ read_words_in rows =
       last = last;
       form = form;
       color = color;
+      partial = is_given_in (codes "partial") rows;
     }) (color_in rows)) (form_in rows)) (optional (number_in 1 1_000_000) (first_of (codes "last") rows))

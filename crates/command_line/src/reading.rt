@@ -9,7 +9,7 @@ ghost use Rattle.command_line.specs.Requests.{asked_by, follow_words_in, read_fo
 use crate::request::{ColorWhen, FollowWords, ReadForm, ReadWords, Request};
 use clap::ArgMatches;
 use condition_words::read_conditions;
-use option_values::options::{COLOR, DIR, FROM_START, LAST, READ_FORM, UNTIL_EOF};
+use option_values::options::{COLOR, DIR, FROM_START, LAST, PARTIAL, READ_FORM, UNTIL_EOF};
 use option_values::{Refusal, is_given, needed, optional_number};
 use std::alloc::{AllocError, Global};
 
@@ -73,7 +73,12 @@ fn words<'a>(matches: &ArgMatches<'a>) -> Result<ReadWords, Refusal<'a>>
         Err(refusal) => return Err(refusal),
     };
     match color_of_matches(matches) {
-        Ok(color) => Ok(ReadWords { last, form, color }),
+        Ok(color) => Ok(ReadWords {
+            last,
+            form,
+            color,
+            partial: is_given(matches, PARTIAL.name),
+        }),
         Err(refusal) => Err(refusal),
     }
 }

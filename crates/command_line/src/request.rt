@@ -174,6 +174,8 @@ pub struct ReadWords {
     pub form: ReadForm,
     /// When their fields are colored.
     pub color: ColorWhen,
+    /// Whether damaged files are left out.
+    pub partial: bool,
 }
 
 /// Which of the records that a server commits `follow` writes, and for how long.

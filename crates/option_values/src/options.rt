@@ -559,6 +559,15 @@ pub const READ_FORM: OptionRow = OptionRow {
     help: "What is written: archive; lines (one record a line); json (one object a line); or show (fields)",
 };
 
+/// `--partial` of `read`.
+pub const PARTIAL: OptionRow = OptionRow {
+    name: "partial",
+    form: Form::Flag,
+    value: "",
+    kind: Kind::Text,
+    help: "Tell each damaged file, and write what the other files hold",
+};
+
 /// `--before` of `expire`.
 pub const BEFORE: OptionRow = OptionRow {
     name: "before",

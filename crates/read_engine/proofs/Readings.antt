@@ -1,5 +1,5 @@
 -- Steps of a reading into a session.
-use Rattle.std.proofs.Common.{◌≡◌, Bool, Err, Ok, Option, Result, Some, false, is_ok, refl, subst, true}
+use Rattle.std.proofs.Common.{◌≡◌, Bool, Err, Ok, Option, Result, Some, false, is_ok, subst, true}
 use Rattle.std.specs.Prelude.{IfSome, List, MatchResult, ℕ}
 use Rattle.driver.specs.Sessions.{Meaning}
 use Rattle.driver.specs.declared.stopped.Stopped.{Stopped as Reason}

@@ -1,5 +1,5 @@
 -- How `read` ends.
-use Rattle.std.specs.Prelude.{◌≡◌, ℕ, List, Bool, Result, Ok, Err, codes, if◌then◌else◌}
+use Rattle.std.specs.Prelude.{◌≡◌, ℕ, Bool, Result, Ok, Err, codes, if◌then◌else◌}
 use Rattle.disk.specs.States.{Files}
 use Rattle.octet_devices.specs.Device.{OutputState}
 use Rattle.driver.specs.Devices.{Reports}

@@ -1,5 +1,5 @@
 -- What `read` of a store does.
-use Rattle.std.specs.Prelude.{◌≡◌, ◌↔◌, ℕ, ℤ, List, [], Option, Some, Bool, ◌||◌, Result, Ok, Err, MatchResult, IfErr, OnErr, OnOk}
+use Rattle.std.specs.Prelude.{◌≡◌, ◌↔◌, ℕ, ℤ, List, [], Option, Some, Bool, ◌||◌, Result, Ok, Err, MatchResult, IfErr, OnOk}
 use Rattle.disk.specs.States.{Files}
 use Rattle.driver.specs.Sessions.{Meaning}
 use Rattle.driver.specs.declared.stopped.Stopped.{Stopped as Reason}

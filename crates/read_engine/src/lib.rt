@@ -5,11 +5,15 @@
 #![tactic(auto)]
 
 mod choosing;
+mod damaged;
+mod folder_behind;
 mod options;
 mod outcome;
+mod partial;
 mod read;
 mod record_test;
 mod wanted;
+mod without_files;
 
 pub use options::{ReadForm, ReadOptions};
 pub use read::read_records;

@@ -31,6 +31,8 @@ pub struct ReadOptions<'a> {
     pub last: Option<u32>,
     /// As what they are written.
     pub form: ReadForm,
+    /// Whether damaged files are told and left out, in place of ending the reading.
+    pub partial: bool,
 }
 
 // the first instant that a record may have, in microseconds since 1970: the year 0 begins

@@ -1,9 +1,8 @@
 //! `read`: the records of a store that meet conditions, or the last of them.
 
-ghost use Rattle.std.specs.Prelude.{◌≡◌, List, Some, ℕ};
+ghost use Rattle.std.specs.Prelude.{◌≡◌, List, Some, false, true, ℕ};
 ghost use Rattle.driver.specs.Effects.{done_of};
 ghost use Rattle.driver.specs.Sessions.{HasBegun};
-ghost use Rattle.archive_sets.specs.declared.range.InRange.{InRange};
 ghost use Rattle.record_choice.specs.Choices.{choice_meaning};
 ghost use Rattle.session_output.specs.Runs.{Runs, outputs};
 ghost use Rattle.store_engine.specs.Reading.{RanRead};
@@ -11,11 +10,14 @@ ghost use Rattle.read_engine.specs.Options.{IsPlain};
 ghost use Rattle.read_engine.specs.Readings.{GivesText, IsRangeOf, ReadsThrough};
 ghost use Rattle.read_engine.specs.Forms.{IsFormed, WritesChosen, counted_meaning};
 ghost use Rattle.read_engine.specs.Commands.{RanChoice};
+ghost use Rattle.read_engine.specs.Partial.{RanPartial};
 
 use crate::choosing::{Choice, Written, choose};
 use crate::options::{ReadForm, ReadOptions, range_of};
 use crate::outcome::{both, report_written};
+use crate::partial::read_partial;
 use crate::record_test::RecordTest;
+use archive_sets::InRange;
 use colored_show::ColoredShow;
 use driver::{Session, Stopped};
 use frame_engine::{Convert, FrameHandler, Show, ShowJson, StreamSession};
@@ -152,27 +154,21 @@ fn write_chosen<T: FrameTest + Drop, F: Folder, W: Output, N: Output>(
     }
 }
 
-/// Writes the records of a store that meet the conditions, or the last of them. Returns the exit status: `DONE`;
-/// `REFUSED` if a file is damaged, or a record has no such form; `FAULT` if a file or a device failed; `NO_MEMORY`
-/// if memory ran out. A line says what went wrong, behind a prefix of what is right. Where the last records are
-/// wanted and the store is not read to its end, none is written.
-///
-/// Beside what the reading of a store takes, memory is taken for the last records, and for a record at a time.
-pub fn read_records<F: Folder, W: Output, N: Output>(
+// Writes the records of a store that meet the conditions, or the last of them, from all its files.
+pub(crate) fn read_all<F: Folder, W: Output, N: Output>(
     alloc: Global,
     folder: &mut F,
     options: &ReadOptions<'_>,
+    range: InRange,
     output: &mut W,
     diagnostics: &mut N,
 ) -> u8
     ensures same { F.tells folder.new → F.files folder.new ≡ F.files folder.old }
     ensures told { F.tells folder.new → F.tells folder.old }
-    ensures plain { IsPlain options.now → (range : InRange) × IsRangeOf options.now.conditions.times range
-        × RanRead (F.tells folder.new) (F.has_failed folder.new) (F.files folder.old) range
-        (W.state output.old) (W.state output.new) (N.state diagnostics.old)
-        (N.state diagnostics.new) result }
+    ensures plain { IsPlain options.now → RanRead (F.tells folder.new) (F.has_failed folder.new)
+        (F.files folder.old) range (W.state output.old) (W.state output.new)
+        (N.state diagnostics.old) (N.state diagnostics.new) result }
 {
-    let range = range_of(options.conditions.times);
     if options.is_plain() {
         return read_store(alloc, folder, range, output, diagnostics);
     }
@@ -185,4 +181,45 @@ pub fn read_records<F: Folder, W: Output, N: Output>(
     };
     let written = write_chosen(alloc, folder, choice, options.form, output, diagnostics);
     report_written(alloc, &written, diagnostics)
+}
+
+/// Writes the records of a store that meet the conditions, or the last of them. Returns the exit status: `DONE`;
+/// `REFUSED` if a file is damaged, or a record has no such form; `FAULT` if a file or a device failed; `NO_MEMORY`
+/// if memory ran out. A line says what went wrong, behind a prefix of what is right. Where the last records are
+/// wanted and the store is not read to its end, none is written.
+///
+/// With `partial`, the files that are read for these times are checked first. A line tells each that is damaged, and
+/// what the others hold is written as if these were not there; the status is then `REFUSED` where it would be
+/// `DONE`. A fault of a file or a device still ends the reading.
+///
+/// Beside what the reading of a store takes, memory is taken for the last records, and for a record at a time.
+pub fn read_records<F: Folder, W: Output, N: Output>(
+    alloc: Global,
+    folder: &mut F,
+    options: &ReadOptions<'_>,
+    output: &mut W,
+    diagnostics: &mut N,
+) -> u8
+    ensures same { F.tells folder.new → F.files folder.new ≡ F.files folder.old }
+    ensures told { F.tells folder.new → F.tells folder.old }
+
+    // the whole store was read, or its first fault told
+    ensures plain { options.now.partial ≡ false → IsPlain options.now → (range : InRange)
+        × IsRangeOf options.now.conditions.times range
+        × RanRead (F.tells folder.new) (F.has_failed folder.new) (F.files folder.old) range
+        (W.state output.old) (W.state output.new) (N.state diagnostics.old)
+        (N.state diagnostics.new) result }
+
+    // its damaged files were told, and what the others hold was read
+    ensures partial { options.now.partial ≡ true → (range : InRange)
+        × IsRangeOf options.now.conditions.times range
+        × RanPartial options.now (F.tells folder.new) (F.has_failed folder.new)
+        (F.files folder.old) range (W.state output.old) (W.state output.new)
+        (N.state diagnostics.old) (N.state diagnostics.new) result }
+{
+    let range = range_of(options.conditions.times);
+    if options.partial {
+        return read_partial(alloc, folder, options, range, output, diagnostics);
+    }
+    read_all(alloc, folder, options, range, output, diagnostics)
 }

@@ -7,6 +7,8 @@ mod adding;
 #[cfg(test)]
 mod engine;
 #[cfg(test)]
+mod partial;
+#[cfg(test)]
 mod reading;
 #[cfg(test)]
 mod statistics;

@@ -64,6 +64,7 @@ pub fn read_options<'a>(
         conditions,
         last: words.last,
         form,
+        partial: words.partial,
     }
 }
 

@@ -11,6 +11,7 @@ const PLAIN: ReadWords = ReadWords {
     last: None,
     form: ReadForm::Archive,
     color: ColorWhen::Auto,
+    partial: false,
 };
 
 // whether `read` with these words takes the folder `d`, this range and this many tests
@@ -112,6 +113,7 @@ fn read_writes_the_last_records_in_a_form(rt: HostRuntime) -> Result<(), Fail> {
                 last: Some(1_000_000),
                 form: ReadForm::Lines,
                 color: ColorWhen::Auto,
+                partial: false,
             },
         ),
         (
@@ -120,14 +122,16 @@ fn read_writes_the_last_records_in_a_form(rt: HostRuntime) -> Result<(), Fail> {
                 last: Some(1),
                 form: ReadForm::Show,
                 color: ColorWhen::Never,
+                partial: false,
             },
         ),
         (
-            &["read", "d", "--as=json", "--color", "always"],
+            &["read", "d", "--as=json", "--partial", "--color", "always"],
             ReadWords {
                 last: None,
                 form: ReadForm::Json,
                 color: ColorWhen::Always,
+                partial: true,
             },
         ),
     ];
