@@ -178,7 +178,7 @@ def claims(results):
 def promised(results):
     """Each call, clause, definition and mutant by which a page on proofs promises something is there."""
     seen = {}
-    for name in ("docs/PROOFS.md", "docs/CONTRACTS.md", "README.md"):
+    for name in ("docs/PROOFS.md", "docs/THEOREMS.md", "docs/NOT_PROVED.md", "docs/CONTRACTS.md", "README.md"):
         for span in spans(ROOT / name):
             seen.update({word: name for word in re.findall(r"[A-Za-z]\w*", span) if is_of_the_sources(word)})
     for word, name in seen.items():
