@@ -28,7 +28,7 @@ Item = namedtuple("Item", "kind owner name about clauses value is_public text")
 Crate = namedtuple("Crate", "name about items handed_on")
 
 HEAD = re.compile(r"^(pub )?(?:unsafe )?(impl|trait)\b(.*)$")
-CALL = re.compile(r'^( *)(pub )?(?:unsafe )?(?:extern "C" )?fn (\w+)')
+CALL = re.compile(r'^( *)(?:(pub )|pub\([^)]*\) )?(?:unsafe )?(?:extern "C" )?fn (\w+)')
 OTHER = re.compile(r"^pub (struct|enum|const|type) (\w+)(.*)$")
 NUMBER = re.compile(r": [iu](?:\d+|size) = (.*);$")
 CLAUSE = re.compile(r"^\s*ensures (?:(\w+) )?\{")
@@ -47,7 +47,7 @@ of its contract. `scripts/contracts.py disk::Disk::sync` prints one contract in 
 - A clause without a name is shown as a dot.
 - Clauses are made of the definitions in `crates/CRATE/specs`; each file is listed with what it defines.
 - A law is a function that does nothing: its contract is a theorem.
-- A type that implements a trait of these crates keeps that trait's clauses.
+- A type that implements a trait of these crates keeps that trait's clauses; those that it adds stand in its own rows.
 
 ## At a glance
 """
@@ -141,11 +141,13 @@ def items_of(path):
             value = NUMBER.match(found[3])
             if found[1] != "const" or value:
                 yield item(lines, at, found[1], None, found[2], value=value and value[1])
-        elif (found := CALL.match(line)) and of is None:
+        elif found := CALL.match(line):
             text, is_empty = contract(lines, at, found[1])
             clauses = tuple(clause[1] or "" for clause in map(CLAUSE.match, text) if clause)
-            yield item(lines, at, "law" if is_empty and clauses else "fn", owner, found[3], clauses,
-                       is_public=bool(found[2]) or kind == "trait", rest=lines[at + 1:at + len(text)])
+            if clauses or of is None:
+                call = item(lines, at, "law" if is_empty and clauses else "fn", owner, found[3], clauses,
+                            is_public=bool(found[2] or of) or kind == "trait", rest=lines[at + 1:at + len(text)])
+                yield call if call.about or not of else call._replace(about=f"As `{of}::{found[3]}` says.")
 
 
 @cache

@@ -132,8 +132,8 @@ def named(results):
 
 @cache
 def names_of_the_sources():
-    """The words of the sources and their clauses, and the names of crates and mutants."""
-    found = set()
+    """The words of the sources and their clauses, and the names of crates, mutants and parts of these tests."""
+    found = {path.stem for path in (ROOT / "tests/cases").glob("*.py")}
     for path in (ROOT / "crates").glob("*/*/**/*"):
         if path.suffix in (".rt", ".antt") and "out" not in path.parts:
             found.update(re.findall(r"\w+", path.read_text()))
@@ -144,35 +144,6 @@ def names_of_the_sources():
 def is_of_the_sources(word):
     """Whether a word is written as names of calls, clauses and definitions are, and not with a prefix for C."""
     return bool("_" in word or re.search("[a-z][A-Z]", word)) and not word.startswith("syslogbox_")
-
-
-def clauses_of(crate, call):
-    """The names of the clauses of a crate's public calls of this name, and an empty one if there is such a call."""
-    found = set()
-    for path in sorted((ROOT / "crates" / crate / "src").rglob("*.rt")):
-        for contract in re.findall(rf"^ *(?:pub |extern \"C\" )*fn {call}\b(.*?)^ *\{{", path.read_text(), re.MULTILINE | re.DOTALL):
-            found |= {"", *re.findall(r"ensures (\w+)", contract)}
-    return found
-
-
-def backed(row):
-    """What a row names as what backs it: calls of crates with their clauses, and parts of tests/run.py."""
-    calls = re.findall(r"`(\w+)::(\w+)`(?: \(([\w, ]+)\))?", row)
-    parts = [part for listed in re.findall(r"parts? (`\w+`(?: and `\w+`)*)", row) for part in re.findall(r"\w+", listed.replace(" and ", " "))]
-    return calls, parts
-
-
-def claims(results):
-    """Each row of PROOFS.md and THREATS.md names a clause or a part of the tests that backs it, and these are there."""
-    modules = {path.stem for path in (ROOT / "tests/cases").glob("*.py")}
-    for name, heads, least in [("PROOFS.md", "Ruled out by", 20), ("THREATS.md", "Backed by", 12)]:
-        rows = [line for line in (ROOT / "docs" / name).read_text().splitlines() if line.startswith("| ") and heads not in line]
-        for row in rows:
-            calls, parts = backed(row)
-            lost = [call for crate, call, clauses in calls if not {"", *(clauses or "").split(", ")} <= clauses_of(crate, call)]
-            lost += [part for part in parts if part not in modules]
-            results.check(f"{name}: what backs {row[2:50]}..", (calls or parts) and not lost, str(lost))
-        results.check(f"{name} has rows", len(rows) >= least, str(len(rows)))
 
 
 def promised(results):
@@ -339,7 +310,6 @@ def documents(program, results):
     links(results)
     paths(results)
     named(results)
-    claims(results)
     promised(results)
     units(results)
     manual(results)
