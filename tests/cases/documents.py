@@ -6,12 +6,14 @@ import json
 import os
 import re
 import shutil
+import socket
 import subprocess
 from functools import cache
 from pathlib import Path
 from xml.etree import ElementTree
 
 from lib import reference, tours
+from lib.loopback import free_port
 from lib.program import ROOT
 from lib.reference import archive_text
 from peers.records import PLAIN
@@ -247,8 +249,9 @@ def tables(results):
 
 
 def take_tour(program, results, name):
-    """Each command of a tour prints what is shown."""
-    taken = tours.steps((ROOT / name).read_text())
+    """Each command of a tour prints what is shown. A server of it listens on a port that is free."""
+    port = str(free_port(socket.SOCK_STREAM))
+    taken = [(command.replace("5514", port), shown) for command, shown in tours.steps((ROOT / name).read_text())]
     results.check(f"{name} has a tour", len(taken) > 1)
     folder, path = tours.folder_of(program, f"tour of {Path(name).stem}")
     for command, shown in taken:
