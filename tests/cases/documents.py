@@ -8,6 +8,7 @@ import re
 import shutil
 import socket
 import subprocess
+import sys
 from functools import cache
 from pathlib import Path
 from xml.etree import ElementTree
@@ -157,6 +158,15 @@ def promised(results):
     for word, name in seen.items():
         results.check(f"{name}: {word} is there", word in names_of_the_sources())
     results.check("the pages on proofs name calls and clauses", len(seen) > 500, str(len(seen)))
+
+
+def contracts(results):
+    """Each contract that a document prints by its name is there."""
+    found = {span.split()[1] for document in DOCUMENTS for span in spans(document) if re.match(r"scripts/contracts\.py [a-z]\w*::", span)}
+    for name in found:
+        done = subprocess.run([sys.executable, ROOT / "scripts/contracts.py", name], capture_output=True, text=True)
+        results.check(f"scripts/contracts.py {name}", done.returncode == 0 and "ensures" in done.stdout, done.stdout + done.stderr)
+    results.check("a document prints a contract", len(found) > 0)
 
 
 def settings(unit):
@@ -314,6 +324,7 @@ def documents(program, results):
     paths(results)
     named(results)
     promised(results)
+    contracts(results)
     units(results)
     manual(results)
     widths(results)
