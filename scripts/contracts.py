@@ -166,7 +166,7 @@ def exported(crate):
     for used in re.findall(r"^pub use ([^;]+);", text, re.M):
         source = re.match(r"(?:crate::)?(\w+)", used)[1]
         tail = used[used.index("{") + 1:used.rindex("}")] if "{" in used else used.rsplit("::", 1)[-1]
-        names = [name.split(" as ")[-1].strip() for name in tail.split(",") if name.strip()]
+        names = [name.split(" as ")[0].strip() for name in tail.split(",") if name.strip()]
         if source in modules:
             own += names
         else:
