@@ -157,23 +157,22 @@ def all_items(crate):
 
 
 def exported(crate):
-    """The names that the root of a crate exports, and those that it hands on from each other crate."""
+    """What the root of a crate exports, each name with the one that it has outside, and what it hands on of each other crate."""
     text = re.sub(r"//.*", "", (ROOT / "crates" / crate / "src/lib.rt").read_text())
-    own = re.findall(r"^pub (?:struct|enum|trait|fn|const|type) (\w+)", text, re.M)
-    own += re.findall(r'^pub extern "C" fn (\w+)', text, re.M)
+    own = {name: name for name in re.findall(r'^pub (?:struct|enum|trait|(?:extern "C" )?fn|const|type) (\w+)', text, re.M)}
     handed = {}
     modules = set(re.findall(r"^(?:pub )?mod (\w+);", text, re.M))
     for used in re.findall(r"^pub use ([^;]+);", text, re.M):
         source = re.match(r"(?:crate::)?(\w+)", used)[1]
         tail = used[used.index("{") + 1:used.rindex("}")] if "{" in used else used.rsplit("::", 1)[-1]
-        names = [name.split(" as ")[0].strip() for name in tail.split(",") if name.strip()]
+        names = [name.split() for name in tail.split(",") if name.strip()]
         if source in modules:
-            own += names
+            own.update((name[0], name[-1]) for name in names)
         else:
-            handed.setdefault(source, []).extend(names)
+            handed.setdefault(source, []).extend(name[-1] for name in names)
     for module in re.findall(r"^pub mod (\w+);", text, re.M):
         path = ROOT / "crates" / crate / "src" / f"{module}.rt"
-        own += [item.name for item in items_of(path) if item.is_public and item.owner is None and item.kind != "impl"]
+        own.update((item.name, item.name) for item in items_of(path) if item.is_public and item.owner is None)
     return own, handed
 
 
@@ -187,8 +186,13 @@ def crate_of(name):
         return Crate(name, about, [], {})
     own, handed_on = exported(name)
     found = [item for item in all_items(name) if item.is_public and item.kind != "impl"]
-    wanted = {*own, *(item.name for item in found if item.name.startswith("syslogbox_proved_"))}
-    return Crate(name, about, [item for item in found if (item.owner or item.name) in wanted], handed_on)
+    own.update((item.name, item.name) for item in found if item.name.startswith("syslogbox_proved_"))
+    return Crate(name, about, [outside(item, own) for item in found if (item.owner or item.name) in own], handed_on)
+
+
+def outside(item, names):
+    """An item under the name that it has outside of its crate."""
+    return item._replace(owner=names[item.owner]) if item.owner else item._replace(name=names[item.name])
 
 
 def traits_of(crate, name):
@@ -214,8 +218,11 @@ def number(text):
     return f"{int(digits):,}" if digits.isdigit() else f"`{text}`"
 
 
+def full_name(item):
+    return f"{item.owner}::{item.name}" if item.owner else item.name
+
+
 def row(crate, item):
-    name = f"{item.owner}::{item.name}" if item.owner else item.name
     told = ", ".join(clause or "·" for clause in item.clauses)
     if item.kind == "const":
         told = f"is {number(item.value)}"
@@ -223,7 +230,7 @@ def row(crate, item):
         traits = traits_of(crate, item.name)
         told = f"those of {', '.join(f'`{trait}`' for trait in traits)}" if traits else ""
     kind = f"{item.kind} " if item.kind in ("trait", "law") else ""
-    return f"| {kind}`{name}` | {cell(item.about)} | {told} |"
+    return f"| {kind}`{full_name(item)}` | {cell(item.about)} | {told} |"
 
 
 def rows(crate):
@@ -304,8 +311,8 @@ def shown(name):
     crate, _, asked = name.partition("::")
     if not (ROOT / "crates" / crate / "src").is_dir():
         return []
-    names = ((f"{item.owner}::{item.name}" if item.owner else item.name, item) for item in all_items(crate) if item.kind != "impl")
-    return ["\n".join(item.text) for full, item in names if asked in (full, full.rsplit("::")[-1])]
+    found = [item for item in crate_of(crate).items + all_items(crate) if item.kind != "impl" and asked in (item.name, full_name(item))]
+    return list(dict.fromkeys("\n".join(item.text) for item in found))
 
 
 def main(words):
