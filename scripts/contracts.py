@@ -51,6 +51,8 @@ of its contract. `scripts/contracts.py disk::Disk::sync` prints one contract in 
 
 ## At a glance
 """
+SILENT = ("Of these it is proved that they have no undefined behaviour, and return if their devices do; what they do is tested, or "
+          "seen in their code.")
 END = """\
 ## Not proved
 
@@ -297,10 +299,20 @@ def glance(title, names):
         yield f"| [{crate.name}](#{crate.name}) | {cell(crate.about)} | {len(crate.items) or ''} | {clauses or ''} |"
 
 
+def without_clauses(names):
+    """Of each crate the calls that have no clause."""
+    for crate in map(crate_of, names):
+        calls = [f"`{full_name(item)}`" for item in crate.items if item.kind == "fn" and not item.clauses]
+        if calls:
+            yield from listed(f"- `{crate.name}`: {', '.join(calls)}")
+
+
 def page():
     *libraries, (_, tests) = groups()
     lines = [line for group in libraries for line in glance(*group)] + [""]
     lines += [line for _, names in libraries for name in names for line in section(name)]
+    lines += ["## Calls without a clause", "", *wrapped(SILENT), ""]
+    lines += [*without_clauses([name for _, names in libraries for name in names]), ""]
     lines += ["## Tests and trials", "", "Nothing but tests calls these crates.", ""]
     lines += [line for name in tests for line in listed(f"- `{name}`: {crate_of(name).about}")]
     return TOP + "\n".join(lines) + "\n\n" + END
