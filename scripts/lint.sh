@@ -1,7 +1,8 @@
 #!/bin/sh
-# Linters for what is not Rattle: pyflakes, shellcheck, warnings of gcc, go vet, whether the lists of options are those of the
-# table, whether crates.txt lists a library that its crate does not name, and whether a public call came to require something. What
-# is not here is skipped, and told. Prints what each finds, and last 'N passed, M failed'; the status is 0 exactly where none found anything.
+# Linters for what is not Rattle: pyflakes, shellcheck, warnings of gcc, go vet; whether the lists of options are those of the
+# table, and docs/CONTRACTS.md that of the sources; whether what the documents promise is shown; whether crates.txt lists a
+# library that its crate does not name, and whether a public call came to require something. What is not here is skipped, and
+# told. Prints what each finds, and last 'N passed, M failed'; the status is 0 exactly where none found anything.
 set -u
 unset CDPATH
 cd "$(dirname "$0")/.." || exit 1
@@ -78,6 +79,8 @@ else
     echo "SKIPPED gcc, the module in C for Python: there is no Python.h"
 fi
 lint "scripts/options.py --check" python3 scripts/options.py --check
+lint "scripts/contracts.py --check" python3 scripts/contracts.py --check
+lint "scripts/promises.py" python3 scripts/promises.py
 lint "scripts/unused.py" python3 scripts/unused.py
 lint "scripts/requires.py" python3 scripts/requires.py
 if here "go vet" go version && here "go vet" pkg-config --version; then lint "go vet" go_code; fi

@@ -6,12 +6,15 @@ import json
 import os
 import re
 import shutil
+import socket
 import subprocess
+import sys
 from functools import cache
 from pathlib import Path
 from xml.etree import ElementTree
 
 from lib import reference, tours
+from lib.loopback import free_port
 from lib.program import ROOT
 from lib.reference import archive_text
 from peers.records import PLAIN
@@ -132,8 +135,8 @@ def named(results):
 
 @cache
 def names_of_the_sources():
-    """The words of the sources and their clauses, and the names of crates and mutants."""
-    found = set()
+    """The words of the sources and their clauses, and the names of crates, mutants and parts of these tests."""
+    found = {path.stem for path in (ROOT / "tests/cases").glob("*.py")}
     for path in (ROOT / "crates").glob("*/*/**/*"):
         if path.suffix in (".rt", ".antt") and "out" not in path.parts:
             found.update(re.findall(r"\w+", path.read_text()))
@@ -146,44 +149,24 @@ def is_of_the_sources(word):
     return bool("_" in word or re.search("[a-z][A-Z]", word)) and not word.startswith("syslogbox_")
 
 
-def clauses_of(crate, call):
-    """The names of the clauses of a crate's public calls of this name, and an empty one if there is such a call."""
-    found = set()
-    for path in sorted((ROOT / "crates" / crate / "src").rglob("*.rt")):
-        for contract in re.findall(rf"^ *(?:pub |extern \"C\" )*fn {call}\b(.*?)^ *\{{", path.read_text(), re.MULTILINE | re.DOTALL):
-            found |= {"", *re.findall(r"ensures (\w+)", contract)}
-    return found
-
-
-def backed(row):
-    """What a row names as what backs it: calls of crates with their clauses, and parts of tests/run.py."""
-    calls = re.findall(r"`(\w+)::(\w+)`(?: \(([\w, ]+)\))?", row)
-    parts = [part for listed in re.findall(r"parts? (`\w+`(?: and `\w+`)*)", row) for part in re.findall(r"\w+", listed.replace(" and ", " "))]
-    return calls, parts
-
-
-def claims(results):
-    """Each row of PROOFS.md and THREATS.md names a clause or a part of the tests that backs it, and these are there."""
-    modules = {path.stem for path in (ROOT / "tests/cases").glob("*.py")}
-    for name, heads, least in [("PROOFS.md", "Ruled out by", 20), ("THREATS.md", "Backed by", 12)]:
-        rows = [line for line in (ROOT / "docs" / name).read_text().splitlines() if line.startswith("| ") and heads not in line]
-        for row in rows:
-            calls, parts = backed(row)
-            lost = [call for crate, call, clauses in calls if not {"", *(clauses or "").split(", ")} <= clauses_of(crate, call)]
-            lost += [part for part in parts if part not in modules]
-            results.check(f"{name}: what backs {row[2:50]}..", (calls or parts) and not lost, str(lost))
-        results.check(f"{name} has rows", len(rows) >= least, str(len(rows)))
-
-
 def promised(results):
     """Each call, clause, definition and mutant by which a page on proofs promises something is there."""
     seen = {}
-    for name in ("docs/PROOFS.md", "docs/CONTRACTS.md", "README.md"):
+    for name in ("docs/PROOFS.md", "docs/THEOREMS.md", "docs/NOT_PROVED.md", "docs/CONTRACTS.md", "README.md"):
         for span in spans(ROOT / name):
             seen.update({word: name for word in re.findall(r"[A-Za-z]\w*", span) if is_of_the_sources(word)})
     for word, name in seen.items():
         results.check(f"{name}: {word} is there", word in names_of_the_sources())
     results.check("the pages on proofs name calls and clauses", len(seen) > 500, str(len(seen)))
+
+
+def contracts(results):
+    """Each contract that a document prints by its name is there."""
+    found = {span.split()[1] for document in DOCUMENTS for span in spans(document) if re.match(r"scripts/contracts\.py [a-z]\w*::", span)}
+    for name in found:
+        done = subprocess.run([sys.executable, ROOT / "scripts/contracts.py", name], capture_output=True, text=True)
+        results.check(f"scripts/contracts.py {name}", done.returncode == 0 and "ensures" in done.stdout, done.stdout + done.stderr)
+    results.check("a document prints a contract", len(found) > 0)
 
 
 def settings(unit):
@@ -276,8 +259,9 @@ def tables(results):
 
 
 def take_tour(program, results, name):
-    """Each command of a tour prints what is shown."""
-    taken = tours.steps((ROOT / name).read_text())
+    """Each command of a tour prints what is shown. A server of it listens on a port that is free."""
+    port = str(free_port(socket.SOCK_STREAM))
+    taken = [(command.replace("5514", port), shown) for command, shown in tours.steps((ROOT / name).read_text())]
     results.check(f"{name} has a tour", len(taken) > 1)
     folder, path = tours.folder_of(program, f"tour of {Path(name).stem}")
     for command, shown in taken:
@@ -339,8 +323,8 @@ def documents(program, results):
     links(results)
     paths(results)
     named(results)
-    claims(results)
     promised(results)
+    contracts(results)
     units(results)
     manual(results)
     widths(results)
