@@ -23,7 +23,7 @@ pub const SHOW_COMMAND: CommandRow = CommandRow {
 /// `check`.
 pub const CHECK_COMMAND: CommandRow = CommandRow {
     name: "check",
-    about: "Say for each frame whether it is a record, and if not, where it stops being one",
+    about: "Check each frame, and report where a bad one goes wrong",
     options: &[FRAMING, TRIM, LEGACY, ZONE, DIALECT, ENDLESS, SUMMARY],
 };
 
@@ -52,35 +52,35 @@ pub const ARCHIVE_COMMAND: CommandRow = CommandRow {
 /// `merge`.
 pub const MERGE_COMMAND: CommandRow = CommandRow {
     name: "merge",
-    about: "Write the archive of the records of two archives",
+    about: "Merge two archives into one",
     options: &[LEFT, RIGHT, QUIET],
 };
 
 /// `migrate`.
 pub const MIGRATE_COMMAND: CommandRow = CommandRow {
     name: "migrate",
-    about: "Write the archive of the records of an old one, whose elements are in the order in which they came",
+    about: "Convert an archive of the old format",
     options: &[OLD_FILE, QUIET],
 };
 
 /// `union`.
 pub const UNION_COMMAND: CommandRow = CommandRow {
     name: "union",
-    about: "Write the archive of the records of one or more archives",
+    about: "Merge one or more archives into one",
     options: &[FILES, QUIET],
 };
 
 /// `common`.
 pub const COMMON_COMMAND: CommandRow = CommandRow {
     name: "common",
-    about: "Write the archive of the records that two archives both have",
+    about: "Write the records that two archives have in common, as an archive",
     options: &[LEFT, RIGHT, QUIET],
 };
 
 /// `minus`.
 pub const MINUS_COMMAND: CommandRow = CommandRow {
     name: "minus",
-    about: "Write the archive of the records of one archive that another lacks",
+    about: "Write the records of one archive that another lacks, as an archive",
     options: &[LEFT, RIGHT, QUIET],
 };
 
@@ -94,7 +94,7 @@ pub const DIFF_COMMAND: CommandRow = CommandRow {
 /// `select`.
 pub const SELECT_COMMAND: CommandRow = CommandRow {
     name: "select",
-    about: "Write the archive of the records of an archive that meet all conditions",
+    about: "Write the records of an archive that meet all conditions, as an archive",
     options: &[
         FROM,
         UNTIL,
@@ -127,7 +127,7 @@ pub const DIGEST_COMMAND: CommandRow = CommandRow {
 /// `count`.
 pub const COUNT_COMMAND: CommandRow = CommandRow {
     name: "count",
-    about: "Write how many records of an archive have each value of some fields or times",
+    about: "Count the records of an archive by field or time",
     options: &[KEYS, TOP, COUNTS_JSON, BARS, QUIET],
 };
 
@@ -141,14 +141,14 @@ pub const ROOT_COMMAND: CommandRow = CommandRow {
 /// `prove`.
 pub const PROVE_COMMAND: CommandRow = CommandRow {
     name: "prove",
-    about: "Write proofs that an archive has each of some records, or that it has not",
+    about: "Write proofs that an archive has each given record, or does not",
     options: &[RECORDS, QUIET],
 };
 
 /// `confirm`.
 pub const CONFIRM_COMMAND: CommandRow = CommandRow {
     name: "confirm",
-    about: "Say what proofs show of some records, without their archive",
+    about: "Check proofs about records, without the archive",
     options: &[HEAD_SIZE, HEAD_HASH, RECORDS],
 };
 
@@ -185,7 +185,7 @@ pub const READ_COMMAND: CommandRow = CommandRow {
 /// `follow`.
 pub const FOLLOW_COMMAND: CommandRow = CommandRow {
     name: "follow",
-    about: "Write the records that a server commits to a store and that meet all conditions, as they come",
+    about: "Write the records that a server commits to a store and that meet all conditions, as they arrive",
     options: &[
         DIR,
         FROM,
@@ -234,7 +234,7 @@ pub const COMPACT_COMMAND: CommandRow = CommandRow {
 /// `add`.
 pub const ADD_COMMAND: CommandRow = CommandRow {
     name: "add",
-    about: "Put the records of an archive into a store",
+    about: "Add the records of an archive to a store",
     options: &[NEW_DIR, QUIET],
 };
 
@@ -263,7 +263,7 @@ pub const SEAL_COMMAND: CommandRow = CommandRow {
 /// `reconcile`.
 pub const RECONCILE_COMMAND: CommandRow = CommandRow {
     name: "reconcile",
-    about: "Bring a store and that of another site to the same records, over standard input and output",
+    about: "Bring this store and that of another site to the same records, over standard input and output",
     options: &[
         DIR,
         FROM,
@@ -281,14 +281,14 @@ pub const RECONCILE_COMMAND: CommandRow = CommandRow {
 /// `answer`.
 pub const ANSWER_COMMAND: CommandRow = CommandRow {
     name: "answer",
-    about: "Answer the reconcile of another site for a store, over standard input and output",
+    about: "Answer another site's reconcile, over standard input and output",
     options: &[DIR, READ_ONLY, ROOM, TIMEOUT],
 };
 
 /// `backup`.
 pub const BACKUP_COMMAND: CommandRow = CommandRow {
     name: "backup",
-    about: "Copy all that a store holds into a folder of its own",
+    about: "Back up a store into a new folder",
     options: &[DIR, COPY_DIR],
 };
 

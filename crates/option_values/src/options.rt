@@ -125,7 +125,7 @@ pub const QUIET: OptionRow = OptionRow {
     form: Form::Flag,
     value: "",
     kind: Kind::Text,
-    help: "Do not tell how far the command is, as it does on a terminal",
+    help: "Do not show progress on a terminal",
 };
 
 /// `LEFT` of commands on two archives.
@@ -188,7 +188,7 @@ pub const KEYS: OptionRow = OptionRow {
     form: Form::Single,
     value: "keys",
     kind: Kind::Keys,
-    help: "Count by these, with commas between them: host, app, proc, msgid, facility, severity, day, hour or minute",
+    help: "Keys to count by, separated by commas: host, app, proc, msgid, facility, severity, day, hour or minute",
 };
 
 /// `--top` of `count`.
@@ -197,7 +197,7 @@ pub const TOP: OptionRow = OptionRow {
     form: Form::Single,
     value: "n",
     kind: Kind::Number(1, 4_294_967_295),
-    help: "Write the first so many lines alone: 1 to 4294967295",
+    help: "Write only the first N lines: 1 to 4294967295",
 };
 
 /// `--json` of `count`.
@@ -361,7 +361,7 @@ pub const HOST_LIKE: OptionRow = OptionRow {
     form: Form::List,
     value: "glob",
     kind: Kind::Pattern,
-    help: "Records whose HOSTNAME is like this pattern, or one of several; * is any text, ? any character",
+    help: "Records whose HOSTNAME matches this pattern, or one of several; * is any text, ? any character",
 };
 
 /// `--app-like` of `select` and `read`.
@@ -370,7 +370,7 @@ pub const APP_LIKE: OptionRow = OptionRow {
     form: Form::List,
     value: "glob",
     kind: Kind::Pattern,
-    help: "Records whose APP-NAME is like this pattern, or one of several; * is any text, ? any character",
+    help: "Records whose APP-NAME matches this pattern, or one of several; * is any text, ? any character",
 };
 
 /// `--not-host` of `select` and `read`.
@@ -547,7 +547,7 @@ pub const LAST: OptionRow = OptionRow {
     form: Form::Single,
     value: "n",
     kind: Kind::Number(1, 1_000_000),
-    help: "Only the last so many of these records: 1 to 1000000",
+    help: "Only the last N of these records: 1 to 1000000",
 };
 
 /// `--as` of `read`.
@@ -592,7 +592,7 @@ pub const AGAINST: OptionRow = OptionRow {
     form: Form::Single,
     value: "line",
     kind: Kind::NonEmpty,
-    help: "Also see that the ledger still has this line, which seal printed",
+    help: "Also check that the ledger still has this line, which seal printed",
 };
 
 /// `--keep` of `expire`.
@@ -628,7 +628,7 @@ pub const DRY_RUN: OptionRow = OptionRow {
     form: Form::Flag,
     value: "",
     kind: Kind::Text,
-    help: "Write the lines alone, and change nothing",
+    help: "Only list what would go, and change nothing",
 };
 
 // ---- Stores of two sites, and copies of a store.
@@ -675,7 +675,7 @@ pub const ROOM: OptionRow = OptionRow {
     form: Form::Default("1024"),
     value: "mib",
     kind: Kind::Number(1, 1_048_576),
-    help: "MiB of records that are taken from the other side in all: 1 to 1048576",
+    help: "Most MiB of records to accept from the other side in all: 1 to 1048576",
 };
 
 /// `--timeout` of `reconcile` and `answer`.
