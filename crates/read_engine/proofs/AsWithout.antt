@@ -12,7 +12,7 @@ use Rattle.store_upkeep.specs.declared.damage.DamagedFile.{DamagedFile}
 use Rattle.store_engine.specs.Reading.{RanRead}
 use Rattle.read_engine.specs.LeftOut.{files_without}
 use Rattle.read_engine.specs.Options.{IsPlain}
-use Rattle.read_engine.specs.Partial.{FindsNone, LeavesOut, RanPartial, TellsDamaged, status_of}
+use Rattle.read_engine.specs.Partial.{SearchFails, LeavesOut, RanPartial, TellsDamaged, status_of}
 use Rattle.read_engine.specs.declared.options.ReadOptions.{ReadOptions}
 
 -- ---- of whole files none is told
@@ -56,7 +56,7 @@ module _ (o : ReadOptions) (tells failed : Type 0) (files : Files) (range : InRa
   -- of a whole store either all is read, or a fault stops the search for damaged files
   pub whole_store : tells → ((name : List ℕ) → IsWholeAt files name) → IsPlain o
       → RanPartial o tells failed files range w w_new n n_new status
-      → RanRead tells failed files range w w_new n n_new status ⊎ FindsNone tells failed files w w_new n n_new status
+      → RanRead tells failed files range w w_new n n_new status ⊎ SearchFails tells failed files w w_new n n_new status
   whole_store t whole plain (inl left) =
       inl (as_without left (none_told files left.damaged whole (left.found t).as_told) plain)
   whole_store t whole plain (inr none) = inr none

@@ -11,7 +11,7 @@ ghost use Rattle.read_engine.specs.Options.{IsPlain};
 ghost use Rattle.read_engine.specs.Readings.{GivesText, IsRangeOf, ReadsThrough};
 ghost use Rattle.read_engine.specs.Forms.{IsFormed, WritesChosen, counted_meaning};
 ghost use Rattle.read_engine.specs.Commands.{RanChoice};
-ghost use Rattle.read_engine.specs.Partial.{FindsNone, RanPartial};
+ghost use Rattle.read_engine.specs.Partial.{SearchFails, RanPartial};
 
 use crate::choosing::{Choice, Written, choose};
 use crate::options::{ReadForm, ReadOptions, range_of};
@@ -225,7 +225,7 @@ pub fn read_records<F: Folder, W: Output, N: Output>(
         × (RanRead (F.tells folder.new) (F.has_failed folder.new) (F.files folder.old) range
         (W.state output.old) (W.state output.new) (N.state diagnostics.old)
         (N.state diagnostics.new) result
-        ⊎ FindsNone (F.tells folder.new) (F.has_failed folder.new) (F.files folder.old)
+        ⊎ SearchFails (F.tells folder.new) (F.has_failed folder.new) (F.files folder.old)
         (W.state output.old) (W.state output.new) (N.state diagnostics.old)
         (N.state diagnostics.new) result) }
 {
