@@ -5,3 +5,4 @@ pub mod LeftOut
 pub mod Outside
 pub mod DamagedFiles
 pub mod SameFiles
+pub mod AsWithout

@@ -73,7 +73,7 @@ pub record LeavesOut (o : ReadOptions) (tells failed : Type 0) (files : Files) (
       ⊎ ReadsNothing told w w_new between n_new status
 
 -- a fault, which has a cause, stopped the search for damaged files, and is told
-pub record FindsNone (tells failed : Type 0) (files : Files) (w w_new n n_new : OutputState) (status : ℕ) : Type 0 where
+pub record SearchFails (tells failed : Type 0) (files : Files) (w w_new n n_new : OutputState) (status : ℕ) : Type 0 where
   pub fault : ReadFault
   pub cause : IsCause (check_causes failed (IsCountedFile tells files)) fault
   pub told : Tells read_telling fault n n_new status
@@ -84,4 +84,4 @@ abbrev pub RanPartial : ReadOptions → Type 0 → Type 0 → Files → InRange 
     → OutputState → ℕ → Type 0
 RanPartial o tells failed files range w w_new n n_new status =
     LeavesOut o tells failed files range w w_new n n_new status
-    ⊎ FindsNone tells failed files w w_new n n_new status
+    ⊎ SearchFails tells failed files w w_new n n_new status

@@ -1,5 +1,6 @@
 //! What `read` of a store does: of the records that the store holds, those that meet conditions are written, or
-//! the last of them alone, as an archive or as what `convert` and `show` make of it.
+//! the last of them alone, as an archive or as what `convert` and `show` make of it. A damaged file ends it; or
+//! the damaged files are told, and what the others hold is read.
 //!
 //! [`read_records`] is the command, over any folder. [`write_wanted`] chooses from records that come.
 #![tactic(auto)]

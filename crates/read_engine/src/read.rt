@@ -1,16 +1,17 @@
 //! `read`: the records of a store that meet conditions, or the last of them.
 
-ghost use Rattle.std.specs.Prelude.{◌≡◌, List, Some, false, true, ℕ};
+ghost use Rattle.std.specs.Prelude.{◌≡◌, ◌⊎◌, List, Some, false, true, ℕ};
 ghost use Rattle.driver.specs.Effects.{done_of};
 ghost use Rattle.driver.specs.Sessions.{HasBegun};
 ghost use Rattle.record_choice.specs.Choices.{choice_meaning};
 ghost use Rattle.session_output.specs.Runs.{Runs, outputs};
+ghost use Rattle.store_upkeep.specs.Whole.{IsWholeAt};
 ghost use Rattle.store_engine.specs.Reading.{RanRead};
 ghost use Rattle.read_engine.specs.Options.{IsPlain};
 ghost use Rattle.read_engine.specs.Readings.{GivesText, IsRangeOf, ReadsThrough};
 ghost use Rattle.read_engine.specs.Forms.{IsFormed, WritesChosen, counted_meaning};
 ghost use Rattle.read_engine.specs.Commands.{RanChoice};
-ghost use Rattle.read_engine.specs.Partial.{RanPartial};
+ghost use Rattle.read_engine.specs.Partial.{SearchFails, RanPartial};
 
 use crate::choosing::{Choice, Written, choose};
 use crate::options::{ReadForm, ReadOptions, range_of};
@@ -216,6 +217,17 @@ pub fn read_records<F: Folder, W: Output, N: Output>(
         × RanPartial options.now (F.tells folder.new) (F.has_failed folder.new)
         (F.files folder.old) range (W.state output.old) (W.state output.new)
         (N.state diagnostics.old) (N.state diagnostics.new) result }
+
+    // where all files are whole, the whole store was read; or a fault stopped the search for damaged ones
+    ensures whole { options.now.partial ≡ true → F.tells folder.new
+        → ((name : List ℕ) → IsWholeAt (F.files folder.old) name) → IsPlain options.now
+        → (range : InRange) × IsRangeOf options.now.conditions.times range
+        × (RanRead (F.tells folder.new) (F.has_failed folder.new) (F.files folder.old) range
+        (W.state output.old) (W.state output.new) (N.state diagnostics.old)
+        (N.state diagnostics.new) result
+        ⊎ SearchFails (F.tells folder.new) (F.has_failed folder.new) (F.files folder.old)
+        (W.state output.old) (W.state output.new) (N.state diagnostics.old)
+        (N.state diagnostics.new) result) }
 {
     let range = range_of(options.conditions.times);
     if options.partial {
