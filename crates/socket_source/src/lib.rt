@@ -21,6 +21,7 @@ mod open_fault;
 mod open_sockets;
 mod opening;
 mod options;
+mod pace;
 mod peers;
 mod ready;
 mod ready_sockets;

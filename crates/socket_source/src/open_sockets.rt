@@ -2,10 +2,11 @@
 ghost use Rattle.std.specs.Prelude.{◌≡◌, ℕ, ◌+◌, ◌<◌, ◌≤◌, false, true, length, slice_get, vec_len, IfNone, IfSome};
 ghost use Rattle.std.specs.Prelude.{IsSome, None};
 ghost use Rattle.socket_source.specs.Kinds.{is_addressed};
+ghost use Rattle.socket_source.specs.Paces.{IsPaced};
 ghost use Rattle.socket_source.specs.Runs.{IsOwn};
 ghost use Rattle.socket_source.specs.Sockets.{HasSender, IsAt, IsAtOrDisplaced, IsEnd, IsOf};
 ghost use Rattle.peer_rules.specs.AllowLists.{networks_of};
-ghost use Rattle.socket_source.specs.Steps.{Becomes, IfLawful, IsLawful, is_peer, is_sender, without_open};
+ghost use Rattle.socket_source.specs.Steps.{Becomes, IfLawful, IsLawful, is_peer, without_open};
 ghost use Rattle.socket_source.specs.Turns.{IsWithinShare};
 ghost use Rattle.socket_source.specs.declared.refusal.Retry.TheVariants.{Reported};
 ghost use Rattle.socket_source.specs.declared.step.ServerStep.TheVariants.{Datagram, Ended, NotAllowed};
@@ -13,6 +14,7 @@ ghost use Rattle.socket_source.specs.declared.step.ServerStep.TheVariants.{Datag
 use crate::allowed::is_peer;
 use crate::bound::{Bound, accept_from, receive};
 use crate::connections::Connections;
+use crate::pace::Pace;
 use crate::peers::host_number;
 use crate::ready::listener_number;
 use crate::refusal::{Reading, Refusal, Retry, retry_of};
@@ -61,6 +63,8 @@ pub(crate) struct OpenSockets {
     pub(crate) connections: Connections,
     // whose datagrams and connections are taken
     pub(crate) allowed: AllowList,
+    // and how fast
+    pub(crate) pace: Pace,
     pub(crate) spare: Option<OwnedFd>,
     // the connection for which another has just ended
     pub(crate) arrived: Option<Arrived>,
@@ -241,30 +245,67 @@ impl OpenSockets {
         taken
     }
 
-    // The step of a datagram of so many octets: if its sender may not send, it is thrown away.
-    fn received(&self, listener: usize, peer: Option<SocketAddr>, len: usize) -> ServerStep
-        requires { listener < vec_len self.now.listeners }
-        ensures lawful { IsLawful (standing_of self.now) (standing_of self.now) len result }
+    // The step of a datagram of so many octets from an address: if it may not send, or is above its
+    // rate, the datagram is thrown away.
+    fn received_from(
+        &mut self,
+        listener: usize,
+        peer: SocketAddr,
+        len: usize,
+        now: Instant,
+    ) -> ServerStep
+        requires { listener < vec_len self.old.listeners }
+        ensures lawful { IsLawful (standing_of self.old) (standing_of self.new) len result }
         ensures at { IsAt listener result }
-        ensures given { is_sender (networks_of self.now.allowed) peer ≡ true
-            → result ≡ Datagram listener peer len }
-        ensures elsewhere { IfSome peer (λ address. is_peer (networks_of self.now.allowed) address ≡ false
+        ensures from { HasSender result }
+        ensures paced { is_peer (networks_of self.old.allowed) peer ≡ true
+            → IsPaced self.old.pace self.new.pace peer now listener len result }
+        ensures elsewhere { is_peer (networks_of self.old.allowed) peer ≡ false
+            → result ≡ NotAllowed listener peer }
+    {
+        if !is_peer(&self.allowed, peer) {
+            return ServerStep::NotAllowed { listener, peer };
+        }
+        if self.pace.take(peer.ip(), now, 1) == 0 {
+            return ServerStep::OverRate { listener, peer };
+        }
+        ServerStep::Datagram {
+            listener,
+            peer: Some(peer),
+            len,
+        }
+    }
+
+    // The step of a datagram of so many octets. One without an address is given in any case.
+    fn received(
+        &mut self,
+        listener: usize,
+        peer: Option<SocketAddr>,
+        len: usize,
+        now: Instant,
+    ) -> ServerStep
+        requires { listener < vec_len self.old.listeners }
+        ensures lawful { IsLawful (standing_of self.old) (standing_of self.new) len result }
+        ensures at { IsAt listener result }
+        ensures given { IfNone peer (result ≡ Datagram listener None len) }
+        ensures paced { IfSome peer (λ address. is_peer (networks_of self.old.allowed) address ≡ true
+            → IsPaced self.old.pace self.new.pace address now listener len result) }
+        ensures elsewhere { IfSome peer (λ address. is_peer (networks_of self.old.allowed) address ≡ false
             → result ≡ NotAllowed listener address) }
+        ensures from { IsSome peer → HasSender result }
     {
         match peer {
-            Some(peer) if !is_peer(&self.allowed, peer) => {
-                ServerStep::NotAllowed { listener, peer }
-            }
-            peer => ServerStep::Datagram {
+            Some(peer) => self.received_from(listener, peer, len, now),
+            None => ServerStep::Datagram {
                 listener,
-                peer,
+                peer: None,
                 len,
             },
         }
     }
 
     // Receives a datagram.
-    fn receive(&mut self, listener: usize, buf: &mut [u8]) -> Taken
+    fn receive(&mut self, listener: usize, now: Instant, buf: &mut [u8]) -> Taken
         ensures at { IfSome result.step (IsAt listener) }
         ensures lawful { IfLawful (standing_of self.old) (standing_of self.new) (length buf.new) result.step }
         // where its senders have addresses, a datagram comes with one
@@ -275,7 +316,7 @@ impl OpenSockets {
             return Taken::none(Retry::Reported);
         };
         match receive(socket, *addressed, buf) {
-            Ok((len, peer)) => Taken::some(self.received(listener, peer, len), Retry::Now),
+            Ok((len, peer)) => Taken::some(self.received(listener, peer, len, now), Retry::Now),
             Err(refusal) => Taken::none(retry_of(refusal)),
         }
     }
@@ -348,7 +389,7 @@ impl OpenSockets {
                 Some(step) => Taken::some(step, Retry::Now),
                 None => self.accept(socket, now),
             },
-            Some(Bound::Datagrams { .. }) => self.receive(socket, buf),
+            Some(Bound::Datagrams { .. }) => self.receive(socket, now, buf),
             None => {
                 let conn = socket.saturating_sub(self.listeners.len());
                 match u32::try_from(conn) {

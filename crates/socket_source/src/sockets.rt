@@ -16,6 +16,7 @@ use crate::open_fault::OpenFault;
 use crate::open_sockets::{OpenSockets, Taken};
 use crate::opening::{check_descriptors, open_listeners};
 use crate::options::SourceOptions;
+use crate::pace::Pace;
 use crate::ready::{INPUT_NUMBER, listener_number};
 use crate::ready_sockets::{Chosen, ReadySockets};
 use crate::refusal::Retry;
@@ -23,7 +24,7 @@ use crate::share::Share;
 use crate::step::{ConnectionEnd, ServerStep, SourceFault};
 use crate::system::spare_descriptor;
 use mio::{Events, Poll};
-use peer_rules::AllowList;
+use peer_rules::{AllowList, Rates};
 use std::alloc::Global;
 use std::net::Net;
 use std::rt::{Clock, Files};
@@ -421,6 +422,7 @@ impl<'a, R: Net + Files + Clock> Sockets<'a, R> {
         alloc: Global,
         listeners: &[Listener<'_>],
         allowed: AllowList,
+        rates: Option<Rates>,
         options: SourceOptions,
     ) -> Result<Sockets<'a, R>, OpenFault>
         ensures vacant { IfOk result (λ sockets. IsVacant (standing sockets)
@@ -453,6 +455,7 @@ impl<'a, R: Net + Files + Clock> Sockets<'a, R> {
                 listeners: bound,
                 connections: Connections::new(alloc, limit, options.per_peer, now)?,
                 allowed,
+                pace: Pace::new(rates, now),
                 spare: spare_descriptor(),
                 arrived: None,
             },
