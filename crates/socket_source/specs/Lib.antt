@@ -13,3 +13,4 @@ pub mod Lines
 pub mod Peers
 pub mod Kinds
 pub mod Paces
+pub mod Places

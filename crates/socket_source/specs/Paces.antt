@@ -1,14 +1,21 @@
 -- How fast peers may send.
-use Rattle.std.specs.Prelude.{◌≡◌, ◌⊎◌, ℕ, ◌-◌, ◌/◌, ◌^◌, min, Option, Some, None}
+use Rattle.std.specs.Prelude.{◌≡◌, ◌⊎◌, ℕ, ◌-◌, ◌/◌, ◌^◌, min, ◌≤◌, List, Option, Some, None, IfSome, option_map}
 use Rattle.std.specs.Time.{instant_nanos}
 use Rattle.std.specs.Net.Socket.{socket_ip}
+use Rattle.std.specs.declared.net.ip_addr.IpAddr.{IpAddr}
 use Rattle.std.specs.declared.net.socket_addr.SocketAddr.{SocketAddr}
 use Rattle.std.specs.declared.time.Instant.{Instant}
 use Rattle.peer_rules.specs.Addresses.{number_of}
 use Rattle.peer_rules.specs.Buckets.{bucket_after}
-use Rattle.peer_rules.specs.Rates.{bucket_of, heard_after, heard_by, lets_through, rate_of}
+use Rattle.peer_rules.specs.Rates.{bucket_of, heard_after, heard_by, lets_through, rate_of, room_of}
 use Rattle.peer_rules.specs.declared.rates.Rates.{Rates}
+use Rattle.socket_source.specs.Places.{begun}
+use Rattle.socket_source.specs.Turns.{IfPiece}
+use Rattle.socket_source.specs.declared.connection.Connection.{Connection}
+use Rattle.socket_source.specs.declared.open_sockets.Taken.{Taken}
 use Rattle.socket_source.specs.declared.pace.Pace.{Pace}
+use Rattle.socket_source.specs.declared.place.Place.{Place}
+use Rattle.socket_source.specs.declared.refusal.Retry.TheVariants.{Slowed}
 use Rattle.socket_source.specs.declared.step.ServerStep.{ServerStep}
 use Rattle.socket_source.specs.declared.step.ServerStep.TheVariants.{Datagram, OverRate}
 
@@ -31,6 +38,10 @@ PassesIn None (Some new) peer now count passed = ⊥
 PassesIn (Some old) None peer now count passed = ⊥
 PassesIn (Some old) (Some new) peer now count passed = Passes old new peer now count passed
 
+-- as many of so many records of a peer as pass are charged to it, if it has a rate
+abbrev pub Charges : Pace → Pace → IpAddr → Instant → ℕ → Type 0
+Charges old new peer now count = (passed : ℕ) × PassesIn old.rates new.rates (number_of peer) (millis_at old now) count passed
+
 -- one record of a peer passes now, or does not: the step is this one, or that one
 pub record Chooses (old new : Pace) (peer : SocketAddr) (now : Instant) (passed : ℕ) (given dropped step : ServerStep)
     : Type 0 where
@@ -41,3 +52,21 @@ pub record Chooses (old new : Pace) (peer : SocketAddr) (now : Instant) (passed 
 abbrev pub IsPaced : Pace → Pace → SocketAddr → Instant → ℕ → ℕ → ServerStep → Type 0
 IsPaced old new peer now listener len step = (passed : ℕ)
     × Chooses old new peer now passed (Datagram listener (Some peer) len) (OverRate listener peer) step
+
+-- how many more records of a peer may pass now, if it has a rate
+abbrev pub room_at : Pace → IpAddr → Instant → Option ℕ
+room_at pace peer now = option_map (λ rates. room_of rates (number_of peer) (millis_at pace now)) pace.rates
+
+-- What a read of a connection gives, whose peer has so much room. Without any it gives nothing, and waits for its peer to have room
+-- again. Else no more frames begin in what it gives than there is room for, and each is charged to the peer: all of them pass.
+abbrev pub ReadsAtRate : Pace → Pace → Connection → Place → Instant → List ℕ → ℕ → Taken → Type 0
+ReadsAtRate old new c start now octets room taken =
+    (room ≡ 0 → taken ≡ record { step = None; retry = Slowed })
+    × IfSome taken.step (IfPiece (λ conn len. (begun c.framing start octets len ≤ room)
+    × PassesIn old.rates new.rates (number_of c.address) (millis_at old now) (begun c.framing start octets len)
+    (begun c.framing start octets len)))
+
+-- without a rate it does not wait
+abbrev pub IsReadAtRate : Pace → Pace → Connection → Place → Instant → List ℕ → Taken → Type 0
+IsReadAtRate old new c start now octets taken = IfSome (room_at old c.address now) (λ room.
+    ReadsAtRate old new c start now octets room taken)

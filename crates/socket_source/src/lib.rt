@@ -23,6 +23,7 @@ mod opening;
 mod options;
 mod pace;
 mod peers;
+mod place;
 mod ready;
 mod ready_sockets;
 mod refusal;

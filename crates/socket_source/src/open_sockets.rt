@@ -2,7 +2,9 @@
 ghost use Rattle.std.specs.Prelude.{◌≡◌, ℕ, ◌+◌, ◌<◌, ◌≤◌, false, true, length, slice_get, vec_len, IfNone, IfSome};
 ghost use Rattle.std.specs.Prelude.{IsSome, None};
 ghost use Rattle.socket_source.specs.Kinds.{is_addressed};
-ghost use Rattle.socket_source.specs.Paces.{IsPaced};
+ghost use Rattle.slab.specs.Slab.{get};
+ghost use Rattle.socket_source.specs.Paces.{Charges, IsPaced, IsReadAtRate};
+ghost use Rattle.socket_source.specs.Places.{begun, place_in};
 ghost use Rattle.socket_source.specs.Runs.{IsOwn};
 ghost use Rattle.socket_source.specs.Sockets.{HasSender, IsAt, IsAtOrDisplaced, IsEnd, IsOf};
 ghost use Rattle.peer_rules.specs.AllowLists.{networks_of};
@@ -13,6 +15,7 @@ ghost use Rattle.socket_source.specs.declared.step.ServerStep.TheVariants.{Datag
 
 use crate::allowed::is_peer;
 use crate::bound::{Bound, accept_from, receive};
+use crate::connection::Connection;
 use crate::connections::Connections;
 use crate::pace::Pace;
 use crate::peers::host_number;
@@ -24,7 +27,7 @@ use crate::system::spare_descriptor;
 use mio::Poll;
 use mio::net::TcpStream;
 use peer_rules::AllowList;
-use std::net::SocketAddr;
+use std::net::{IpAddr, SocketAddr};
 use std::os::fd::OwnedFd;
 use std::time::Instant;
 use syslog_frame::Framing;
@@ -121,12 +124,14 @@ impl OpenSockets {
             return ServerStep::NotAllowed { listener, peer };
         }
         let first = listener_number(self.listeners.len());
-        let number = host_number(peer);
         let registry = self.poll.registry();
-        match self
-            .connections
-            .keep(registry, first, stream, framing, number, now)
-        {
+        let connection = Connection {
+            stream,
+            framing,
+            peer: host_number(peer),
+            address: peer.ip(),
+        };
+        match self.connections.keep(registry, first, connection, now) {
             Some(conn) => ServerStep::Opened {
                 conn,
                 listener,
@@ -245,6 +250,32 @@ impl OpenSockets {
         taken
     }
 
+    // The step of a datagram of so many octets from an address that may send: if it is above its rate,
+    // the datagram is thrown away.
+    fn let_through(
+        &mut self,
+        listener: usize,
+        peer: SocketAddr,
+        len: usize,
+        now: Instant,
+    ) -> ServerStep
+        requires known { listener < vec_len self.old.listeners }
+        requires may { is_peer (networks_of self.old.allowed) peer ≡ true }
+        ensures lawful { IsLawful (standing_of self.old) (standing_of self.new) len result }
+        ensures at { IsAt listener result }
+        ensures from { HasSender result }
+        ensures paced { IsPaced self.old.pace self.new.pace peer now listener len result }
+    {
+        if self.pace.take(peer.ip(), now, 1) == 0 {
+            return ServerStep::OverRate { listener, peer };
+        }
+        ServerStep::Datagram {
+            listener,
+            peer: Some(peer),
+            len,
+        }
+    }
+
     // The step of a datagram of so many octets from an address: if it may not send, or is above its
     // rate, the datagram is thrown away.
     fn received_from(
@@ -263,17 +294,10 @@ impl OpenSockets {
         ensures elsewhere { is_peer (networks_of self.old.allowed) peer ≡ false
             → result ≡ NotAllowed listener peer }
     {
-        if !is_peer(&self.allowed, peer) {
-            return ServerStep::NotAllowed { listener, peer };
+        if is_peer(&self.allowed, peer) {
+            return self.let_through(listener, peer, len, now);
         }
-        if self.pace.take(peer.ip(), now, 1) == 0 {
-            return ServerStep::OverRate { listener, peer };
-        }
-        ServerStep::Datagram {
-            listener,
-            peer: Some(peer),
-            len,
-        }
+        ServerStep::NotAllowed { listener, peer }
     }
 
     // The step of a datagram of so many octets. One without an address is given in any case.
@@ -351,18 +375,42 @@ impl OpenSockets {
         }
     }
 
-    /// Reads a share of a connection, if one is open under the number.
+    // Charges the frames that begin in the first `len` octets, which a connection gave, to its peer.
+    fn charge(&mut self, conn: u32, peer: IpAddr, now: Instant, octets: &[u8], len: usize)
+        requires { len ≤ length octets.now }
+        ensures standing { standing_of self.new ≡ standing_of self.old }
+        ensures framings { framings_of self.new ≡ framings_of self.old }
+        ensures charged { IfSome (framings_of self.old conn) (λ framing. Charges self.old.pace self.new.pace peer now
+            (begun framing (place_in self.old.connections.places.items conn) octets.now len)) }
+    {
+        if self.pace.is_bounded() {
+            let frames = self.connections.begin(conn, octets, len);
+            let _passed = self.pace.take(peer, now, frames);
+        }
+    }
+
+    /// Reads a share of a connection, if one is open under the number, and if its peer may send another
+    /// frame now. No more frames begin in what it gives than its peer may send; each is charged to it.
     pub(crate) fn read(&mut self, conn: u32, share: Share, now: Instant, buf: &mut [u8]) -> Taken
         requires { 0 < share.frames }
         ensures of { IfSome result.step (IsOf conn) }
         ensures lawful { IfLawful (standing_of self.old) (standing_of self.new) (length buf.new) result.step }
         ensures bounded { IfSome result.step (IsWithinShare share (framings_of self.new) buf.new) }
+        ensures paced { IfSome (get self.old.connections.streams conn) (λ c. IsReadAtRate self.old.pace self.new.pace c
+            (place_in self.old.connections.places.items conn) now buf.new result) }
     {
-        if !self.connections.is_open(conn) {
+        let Some(peer) = self.connections.address(conn) else {
             return Taken::none(Retry::Reported);
+        };
+        let room = self.pace.room(peer, now);
+        if room == Some(0) {
+            return Taken::none(Retry::Slowed);
         }
-        match self.connections.read(conn, share, now, buf) {
-            Reading::Piece(len) => Taken::some(ServerStep::Piece { conn, len }, Retry::Now),
+        match self.connections.read(conn, share, room, now, buf) {
+            Reading::Piece(len) => {
+                self.charge(conn, peer, now, buf, len);
+                Taken::some(ServerStep::Piece { conn, len }, Retry::Now)
+            }
             Reading::Ended(end) => self.end(conn, end),
             Reading::Again => Taken::none(Retry::Now),
             Reading::Dry => Taken::none(Retry::Reported),
