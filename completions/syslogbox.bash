@@ -64,7 +64,7 @@ _syslogbox_options() {
             ;;
         serve)
             echo "--udp --counted --lf --unix --inherited --allow --connections --per-peer --idle --commit"
-            echo "--checkpoint --metrics --until-eof --trim --legacy --zone --dialect --help"
+            echo "--checkpoint --metrics --rate --until-eof --trim --legacy --zone --dialect --help"
             ;;
     esac
 }
@@ -89,8 +89,8 @@ _syslogbox_value() {
         "reconcile --timeout" | "answer --room" | "answer --timeout" | "send --host" | "send --app" | \
         "send --proc" | "send --msgid" | "send --micros" | "collect --legacy" | "collect --zone" | "serve --udp" | \
         "serve --counted" | "serve --lf" | "serve --allow" | "serve --connections" | "serve --per-peer" | \
-        "serve --idle" | "serve --commit" | "serve --checkpoint" | "serve --metrics" | "serve --legacy" | \
-        "serve --zone")
+        "serve --idle" | "serve --commit" | "serve --checkpoint" | "serve --metrics" | "serve --rate" | \
+        "serve --legacy" | "serve --zone")
             echo "text"
             ;;
         "show --dialect" | "check --dialect" | "convert --dialect" | "archive --dialect" | "collect --dialect" | \

@@ -120,4 +120,5 @@ complete -c syslogbox -n "__fish_seen_subcommand_from serve" -l idle -x -d 'Seco
 complete -c syslogbox -n "__fish_seen_subcommand_from serve" -l commit -x -d 'Milliseconds within which a record is committed'
 complete -c syslogbox -n "__fish_seen_subcommand_from serve" -l checkpoint -x -d 'MiB that a journal may reach before a checkpoint'
 complete -c syslogbox -n "__fish_seen_subcommand_from serve" -l metrics -x -d 'Show metrics for Prometheus and the server\'s health over HTTP on ADDR:PORT'
+complete -c syslogbox -n "__fish_seen_subcommand_from serve" -l rate -x -d 'Records a second that one address may send, and a burst of ten times as many'
 complete -c syslogbox -n "__fish_seen_subcommand_from help" -a "show check convert archive merge migrate union common minus diff select digest count root prove confirm read follow verify stat compact add expire seal reconcile answer backup send collect serve"

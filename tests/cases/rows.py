@@ -105,7 +105,7 @@ TAKES = {
     "--facility": "kern, user, mail, daemon, auth, syslog, lpr, news, uucp, cron, authpriv, ftp, ntp, audit, alert, clock or "
                   "local0 to local7",
     "--by": "month, day or hour", "--udp": ADDRESS, "--counted": ADDRESS, "--lf": ADDRESS, "--inherited": "udp, counted or lf",
-    "--connections": "a number from 1 to 16384", "--per-peer": "a number from 1 to 16384",
+    "--connections": "a number from 1 to 16384", "--per-peer": "a number from 1 to 16384", "--rate": "a number from 1 to 1000000",
     "--idle": "a number from 1 to 31536000", "--commit": "a number from 0 to 3600000",
     "--checkpoint": "a number from 1 to 2048", "--unix": "the name of a file",
     "--allow": "an address or a network, such as 192.0.2.1, 192.0.2.0/24 or 2001:db8::/32",
@@ -122,7 +122,7 @@ REFUSED_OF_SERVE = {
     "--inherited": ["unix", "", "UDP"], "--unix": [""],
     "--connections": ["0", "16385", "", "x", "+1", "1.5", "18446744073709551617"], "--idle": ["0", "31536001", "never"],
     "--commit": ["3600001", "1s"], "--checkpoint": ["0", "2049", "64M"],
-    "--per-peer": ["0", "16385"], "--legacy": ["0", "9999"],
+    "--per-peer": ["0", "16385"], "--rate": ["0", "1000001", "", "10/s"], "--legacy": ["0", "9999"],
     "--allow": ["", "localhost", "192.0.2", "192.0.2.0/", "192.0.2.0/33", "192.0.2.0/+24", "::/129", "192.0.2.0/24,::/0"],
     "--zone": ["E2400", "0000"], "--dialect": ["rfc3164", ""],
 }

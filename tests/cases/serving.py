@@ -16,6 +16,7 @@ from random import Random
 from cases.mutated import mutations
 from cases.rows import A, LEGACY_2001, Y, Z, entries
 from cases.serving_peers import ALLOWED
+from cases.serving_rates import RATED
 from cases.serving_stores import KEPT, Sender, segments_of
 from lib import reference
 from lib.loopback import HERE, NEVER, free_port, kind_of
@@ -715,7 +716,7 @@ def stopped_by_signal(runs):
 TESTS = [listeners, families, inherited, not_inherited, streams, datagrams, at_once, cut_over, readings, wrong, endless,
          numbers, too_many, idle, few_descriptors, commits, statuses, open_ends, busy_end, signals, stopped_by_signal, inputs,
          no_notes, counts, managed, not_managed,
-         *ALLOWED, *KEPT]
+         *ALLOWED, *RATED, *KEPT]
 
 
 def serving(program, results):

@@ -222,11 +222,11 @@ with_connection_rules a =
     with_rule (with_rule (with_rule (with_rule a (list_rule (codes "allow"))) (default_rule (codes "connections") (codes "1024")))
     (option_rule (codes "per-peer"))) (option_rule (codes "idle"))
 
--- the options of `serve` on commits and checkpoints, and on who watches
+-- the options of `serve` on commits and checkpoints, on who watches, and on how fast a peer may send
 abbrev pub with_limit_rules : App → App
 with_limit_rules a =
-    with_rule (with_rule (with_rule (with_connection_rules a) (default_rule (codes "commit") (codes "1000")))
-    (default_rule (codes "checkpoint") (codes "64"))) (option_rule (codes "metrics"))
+    with_rule (with_rule (with_rule (with_rule (with_connection_rules a) (default_rule (codes "commit") (codes "1000")))
+    (default_rule (codes "checkpoint") (codes "64"))) (option_rule (codes "metrics"))) (option_rule (codes "rate"))
 
 -- the command that collects into a store
 abbrev pub serve_app : App

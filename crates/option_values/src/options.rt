@@ -815,6 +815,15 @@ pub const METRICS: OptionRow = OptionRow {
     help: "Show metrics for Prometheus and the server's health over HTTP on ADDR:PORT",
 };
 
+/// `--rate` of `serve`.
+pub const RATE: OptionRow = OptionRow {
+    name: "rate",
+    form: Form::Single,
+    value: "n",
+    kind: Kind::Number(1, 1_000_000),
+    help: "Records a second that one address may send, and a burst of ten times as many: 1 to 1000000 [default: any]",
+};
+
 /// `--until-eof` of `serve` and `follow`.
 pub const UNTIL_EOF: OptionRow = OptionRow {
     name: "until-eof",

@@ -1,5 +1,5 @@
 //! What a peer may send now.
-ghost use Rattle.std.specs.Prelude.{◌≡◌, ◌↔◌, IsTrue};
+ghost use Rattle.std.specs.Prelude.{◌≡◌};
 
 /// What one record costs, in thousandths of a record.
 pub const RECORD_CREDIT: u64 = 1_000;
@@ -16,7 +16,7 @@ pub(crate) struct Bucket {
 }
 
 impl Bucket {
-    ghost use Rattle.peer_rules.specs.Buckets.{Passes, bucket_after, credit_at, full_bucket, full_credit};
+    ghost use Rattle.peer_rules.specs.Buckets.{bucket_after, credit_at, full_bucket, passing, room_in};
 
     /// The bucket of a peer that was never heard.
     pub(crate) fn full(per_second: u32) -> Bucket
@@ -39,16 +39,24 @@ impl Bucket {
             .min(BURST_MILLIS * u64::from(per_second))
     }
 
-    /// Whether one more record may pass at a time, and the bucket afterwards.
-    pub(crate) fn take(self, per_second: u32, now: u64) -> (bool, Bucket)
-        ensures passes { IsTrue result.0 ↔ Passes per_second self now }
+    /// How many more records may pass at a time.
+    pub(crate) fn room(self, per_second: u32, now: u64) -> u64
+        ensures { result ≡ room_in per_second self now }
+    {
+        self.credit_at(per_second, now) / RECORD_CREDIT
+    }
+
+    /// How many of so many records pass at a time, and the bucket afterwards.
+    pub(crate) fn take(self, per_second: u32, now: u64, count: u64) -> (u64, Bucket)
+        ensures passes { result.0 ≡ passing per_second self now count }
         ensures after { result.1 ≡ bucket_after per_second self now result.0 }
     {
         let credit = self.credit_at(per_second, now);
-        let heard = self.heard.max(now);
-        match credit.checked_sub(RECORD_CREDIT) {
-            Some(credit) => (true, Bucket { credit, heard }),
-            None => (false, Bucket { credit, heard }),
-        }
+        let passed = count.min(credit / RECORD_CREDIT);
+        let bucket = Bucket {
+            credit: credit - RECORD_CREDIT * passed,
+            heard: self.heard.max(now),
+        };
+        (passed, bucket)
     }
 }

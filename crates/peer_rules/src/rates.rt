@@ -1,7 +1,7 @@
 //! How fast each peer may send.
-ghost use Rattle.std.specs.Prelude.{◌≡◌, ◌↔◌, IfOk, IsTrue, OnErr, OnOk};
+ghost use Rattle.std.specs.Prelude.{◌≡◌, IfOk, OnErr};
 ghost use Rattle.peer_rules.specs.Addresses.{number_of};
-ghost use Rattle.peer_rules.specs.Buckets.{Passes, bucket_after};
+ghost use Rattle.peer_rules.specs.Buckets.{bucket_after};
 
 use crate::address::address_number;
 use crate::bucket::Bucket;
@@ -24,7 +24,7 @@ pub struct Rates {
 }
 
 impl Rates {
-    ghost use Rattle.peer_rules.specs.Rates.{bucket_of, heard_after, heard_by, nobody, rate_of};
+    ghost use Rattle.peer_rules.specs.Rates.{bucket_of, heard_after, heard_by, lets_through, nobody, rate_of, room_of};
 
     /// Nobody was heard. The keys of the table are random, since the peers choose their addresses. It
     /// fails only when out of memory.
@@ -39,27 +39,40 @@ impl Rates {
         })
     }
 
-    /// Whether one more record of a peer may pass at a time, in milliseconds of any clock. A record that
-    /// passes costs its peer a thousand thousandths of a record; each millisecond since the peer was last
-    /// heard earns as many thousandths as records may pass in a second. It fails only when out of
-    /// memory, and then nothing has changed.
-    pub fn take(&mut self, peer: IpAddr, now_millis: u64) -> Result<bool, AllocError>
-        ensures passes { IfOk result (λ passes. IsTrue passes
-            ↔ Passes (rate_of self.old) (bucket_of self.old (number_of peer)) now_millis) }
-        ensures heard { IfOk result (λ passes. heard_by self.new
+    // The bucket of a peer; a full one if it is not known.
+    fn bucket(&self, number: u128) -> Bucket
+        ensures { result ≡ bucket_of self.now number }
+    {
+        self.buckets
+            .peek(&number)
+            .copied()
+            .unwrap_or(Bucket::full(self.per_second))
+    }
+
+    /// How many more records of a peer may pass at a time, in milliseconds of any clock.
+    pub fn room(&self, peer: IpAddr, now_millis: u64) -> u64
+        ensures { result ≡ room_of self.now (number_of peer) now_millis }
+    {
+        let bucket = self.bucket(address_number(peer));
+        bucket.room(self.per_second, now_millis)
+    }
+
+    /// How many of `count` records of a peer pass at a time, in milliseconds of any clock: as many as
+    /// there is room for. A record that passes costs its peer a thousand thousandths of a record; each
+    /// millisecond since the peer was last heard earns as many thousandths as records may pass in a
+    /// second. It fails only when out of memory, and then nothing has changed.
+    pub fn take(&mut self, peer: IpAddr, now_millis: u64, count: u64) -> Result<u64, AllocError>
+        ensures passes { IfOk result (λ passed. passed
+            ≡ lets_through self.old (number_of peer) now_millis count) }
+        ensures heard { IfOk result (λ passed. heard_by self.new
             ≡ heard_after (heard_by self.old) (number_of peer)
-            (bucket_after (rate_of self.old) (bucket_of self.old (number_of peer)) now_millis passes)) }
+            (bucket_after (rate_of self.old) (bucket_of self.old (number_of peer)) now_millis passed)) }
         ensures rate { rate_of self.new ≡ rate_of self.old }
         ensures err { OnErr result (heard_by self.new ≡ heard_by self.old) }
     {
         let number = address_number(peer);
-        let bucket = self
-            .buckets
-            .peek(&number)
-            .copied()
-            .unwrap_or(Bucket::full(self.per_second));
-        let (passes, bucket) = bucket.take(self.per_second, now_millis);
+        let (passed, bucket) = self.bucket(number).take(self.per_second, now_millis, count);
         self.buckets.put(number, bucket)?;
-        Ok(passes)
+        Ok(passed)
     }
 }

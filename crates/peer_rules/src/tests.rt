@@ -107,18 +107,38 @@ fn a_list_allows_its_networks(rt: HostRuntime) -> Result<(), Fail> {
     Ok(())
 }
 
+// Whether one record passes.
+fn passes(rates: &mut Rates, peer: IpAddr, now_millis: u64) -> Result<bool, Fail> {
+    Ok(rates.take(peer, now_millis, 1)? == 1)
+}
+
 #[test]
 fn a_peer_sends_a_burst_and_then_at_its_rate(rt: HostRuntime) -> Result<(), Fail> {
     let mut rates = Rates::new(rt.alloc(), RandomState::new(&rt)?, 5)?;
     let peer = address("192.0.2.1")?;
     for _record in 0..50 {
-        assert!(rt; rates.take(peer, 1_000)?);
+        assert!(rt; passes(&mut rates, peer, 1_000)?);
     }
-    assert!(rt; !rates.take(peer, 1_000)?);
-    assert!(rt; !rates.take(peer, 0)?, "a clock that goes back");
-    assert!(rt; !rates.take(peer, 1_199)?);
-    assert!(rt; rates.take(address("::ffff:192.0.2.1")?, 1_200)?);
-    assert!(rt; !rates.take(peer, 1_200)?);
-    assert!(rt; rates.take(address("192.0.2.2")?, 1_200)?);
+    assert!(rt; !passes(&mut rates, peer, 1_000)?);
+    assert!(rt; !passes(&mut rates, peer, 0)?, "a clock that goes back");
+    assert!(rt; !passes(&mut rates, peer, 1_199)?);
+    assert!(rt; passes(&mut rates, address("::ffff:192.0.2.1")?, 1_200)?);
+    assert!(rt; !passes(&mut rates, peer, 1_200)?);
+    assert!(rt; passes(&mut rates, address("192.0.2.2")?, 1_200)?);
+    Ok(())
+}
+
+#[test]
+fn as_many_records_pass_as_there_is_room_for(rt: HostRuntime) -> Result<(), Fail> {
+    let mut rates = Rates::new(rt.alloc(), RandomState::new(&rt)?, 3)?;
+    let peer = address("192.0.2.1")?;
+    assert_eq!(rt; rates.room(peer, 7), 30);
+    assert_eq!(rt; rates.take(peer, 7, 28)?, 28);
+    assert_eq!(rt; rates.room(peer, 7), 2);
+    assert_eq!(rt; rates.take(peer, 7, 5)?, 2);
+    assert_eq!(rt; rates.take(peer, 1_006, 5)?, 2, "in 999 milliseconds");
+    assert_eq!(rt; rates.take(peer, 1_007, 5)?, 1);
+    assert_eq!(rt; rates.room(peer, 3_600_000), 30, "no more than a burst");
+    assert_eq!(rt; rates.room(address("192.0.2.2")?, 1_007), 30);
     Ok(())
 }

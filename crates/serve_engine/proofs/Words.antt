@@ -27,7 +27,7 @@ use Rattle.syslog_collect.specs.declared.outcome.Outcome.TheVariants.{New, Held,
 use Rattle.syslog_collect.specs.declared.outcome.Outcome.TheVariants.{BadCount}
 use Rattle.serve_engine.specs.Lines.{at_text, batches_text, counted_text, counts_text, framing_text, happening_text}
 use Rattle.serve_engine.specs.Lines.{is_refused}
-use Rattle.serve_engine.specs.Lines.{not_allowed_text, peer_text, records_text, refusals_text, refused_text, way_text}
+use Rattle.serve_engine.specs.Lines.{not_allowed_text, over_rate_text, peer_text, records_text, refusals_text, refused_text, way_text}
 use Rattle.serve_engine.specs.Notes.{IsNote}
 use Rattle.serve_engine.specs.declared.counts.ServeCounts.{ServeCounts}
 use Rattle.serve_engine.specs.declared.lines.Happening.{Happening}
@@ -240,6 +240,7 @@ happening_note way happening.Idle = led_by way (known (codes " idle") (codes " i
 happening_note way happening.TurnedAway = led_by way
     (known (codes " closed: too many connections") (codes " closed: too many connections\n") refl refl)
 happening_note way happening.NotAllowed = led_by way (known (codes " not allowed") (codes " not allowed\n") refl refl)
+happening_note way happening.OverRate = led_by way (known (codes " over-rate") (codes " over-rate\n") refl refl)
 happening_note way happening.NoMemory = led_by way
     (known (codes " closed: want of memory") (codes " closed: want of memory\n") refl refl)
 happening_note way happening.Dropped = led_by way
@@ -270,9 +271,15 @@ not_allowed_words true c = both (codes " not-allowed ") (decimal c.not_allowed) 
     (number c.not_allowed)
 not_allowed_words false c = tt
 
-pub counts_note : (c : ServeCounts) (b : Bool) → IsNote (counts_text c b)
-counts_note c b = led (counted_text c) (not_allowed_text b c ++ codes "\n") (counted_words c)
-    (note (not_allowed_text b c) (not_allowed_text b c ++ codes "\n") (not_allowed_words b c) refl)
+over_rate_words : (b : Bool) (c : ServeCounts) → IsLine (over_rate_text b c)
+over_rate_words true c = both (codes " over-rate ") (decimal c.over_rate) (word (codes " over-rate ") refl)
+    (number c.over_rate)
+over_rate_words false c = tt
+
+pub counts_note : (c : ServeCounts) (a b : Bool) → IsNote (counts_text c a b)
+counts_note c a b = led (counted_text c) (not_allowed_text a c ++ (over_rate_text b c ++ codes "\n")) (counted_words c)
+    (led (not_allowed_text a c) (over_rate_text b c ++ codes "\n") (not_allowed_words a c)
+    (note (over_rate_text b c) (over_rate_text b c ++ codes "\n") (over_rate_words b c) refl))
 
 -- the lines of which the text is known
 pub full_note : IsNote (codes "store full\n")

@@ -29,6 +29,7 @@ no_counts = record {
   dropped = 0;
   quiet = 0;
   not_allowed = 0;
+  over_rate = 0;
 }
 
 -- a count with so many more, which stays at the largest value
@@ -62,6 +63,10 @@ CountsDropped old new = new ≡ record old { dropped = new.dropped; quiet = new.
 -- with a datagram or a connection of a peer that may not send
 abbrev pub not_allowed_counted : ServeCounts → ServeCounts
 not_allowed_counted c = record c { not_allowed = count_up c.not_allowed 1 }
+
+-- with a datagram above the rate of its peer
+abbrev pub over_rate_counted : ServeCounts → ServeCounts
+over_rate_counted c = record c { over_rate = count_up c.over_rate 1 }
 
 -- a line more is quiet
 abbrev pub quiet_counted : ServeCounts → ServeCounts

@@ -34,6 +34,7 @@ event_of (step.Ended conn end) octets = Some (Ended conn)
 event_of (step.Datagram listener peer len) octets = Some (Datagram octets)
 event_of (step.TurnedAway listener framing peer) octets = None
 event_of (step.NotAllowed listener peer) octets = None
+event_of (step.OverRate listener peer) octets = None
 event_of step.Tick octets = None
 event_of step.InputEnded octets = None
 event_of step.Finished octets = None

@@ -74,6 +74,7 @@ happening_text way happening.Reset = peer_text way ++ codes " reset\n"
 happening_text way happening.Idle = peer_text way ++ codes " idle\n"
 happening_text way happening.TurnedAway = peer_text way ++ codes " closed: too many connections\n"
 happening_text way happening.NotAllowed = peer_text way ++ codes " not allowed\n"
+happening_text way happening.OverRate = peer_text way ++ codes " over-rate\n"
 happening_text way happening.NoMemory = peer_text way ++ codes " closed: want of memory\n"
 happening_text way happening.Dropped = peer_text way ++ codes " dropped: want of memory\n"
 
@@ -98,6 +99,12 @@ abbrev pub not_allowed_text : Bool → ServeCounts → List ℕ
 not_allowed_text true c = codes " not-allowed " ++ decimal c.not_allowed
 not_allowed_text false c = []
 
+-- and of datagrams above the rates of their peers
+abbrev pub over_rate_text : Bool → ServeCounts → List ℕ
+over_rate_text true c = codes " over-rate " ++ decimal c.over_rate
+over_rate_text false c = []
+
 -- the line of counts
-abbrev pub counts_text : ServeCounts → Bool → List ℕ
-counts_text c with_not_allowed = counted_text c ++ (not_allowed_text with_not_allowed c ++ codes "\n")
+abbrev pub counts_text : ServeCounts → Bool → Bool → List ℕ
+counts_text c with_not_allowed with_over_rate =
+    counted_text c ++ (not_allowed_text with_not_allowed c ++ (over_rate_text with_over_rate c ++ codes "\n"))

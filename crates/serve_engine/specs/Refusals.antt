@@ -14,7 +14,7 @@ use Rattle.syslog_collect.specs.declared.outcome.Outcome.TheVariants.{BadCount}
 use Rattle.socket_source.specs.declared.step.ServerStep.{ServerStep}
 use Rattle.socket_source.specs.declared.step.ServerStep.TheVariants as step
 use Rattle.serve_engine.specs.Counts.{CountsBroken, CountsDropped, CountsEnd, CountsOpening, CountsSilent, broken_counted}
-use Rattle.serve_engine.specs.Counts.{counted, not_allowed_counted, octets_counted}
+use Rattle.serve_engine.specs.Counts.{counted, not_allowed_counted, octets_counted, over_rate_counted}
 use Rattle.serve_engine.specs.Events.{IsAccepted, Manner}
 use Rattle.serve_engine.specs.declared.counts.ServeCounts.{ServeCounts}
 use Rattle.serve_engine.specs.declared.report.Report.{Report}
@@ -80,7 +80,11 @@ KeepsNoFrame old new = KeepsNone old new × CountsBroken old.1 new.1
 abbrev pub peer_counted : OutputState × ServeCounts → OutputState × ServeCounts
 peer_counted old = (old.0, not_allowed_counted old.1)
 
--- it is, where a step says so
+-- a datagram above the rate of its peer is counted
+abbrev pub dropped_counted : OutputState × ServeCounts → OutputState × ServeCounts
+dropped_counted old = (old.0, over_rate_counted old.1)
+
+-- each is, where a step says so
 abbrev pub with_peer : ServerStep → OutputState × ServeCounts → OutputState × ServeCounts
 with_peer (step.Opened conn listener framing peer) old = old
 with_peer (step.Piece conn len) old = old
@@ -88,6 +92,7 @@ with_peer (step.Ended conn end) old = old
 with_peer (step.Datagram listener peer len) old = old
 with_peer (step.TurnedAway listener framing peer) old = old
 with_peer (step.NotAllowed listener peer) old = peer_counted old
+with_peer (step.OverRate listener peer) old = dropped_counted old
 with_peer step.Tick old = old
 with_peer step.InputEnded old = old
 with_peer step.Finished old = old

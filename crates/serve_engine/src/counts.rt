@@ -33,6 +33,8 @@ pub struct ServeCounts {
     pub quiet: u64,
     /// Datagrams and connections of peers that may not send, of which nothing was read.
     pub not_allowed: u64,
+    /// Datagrams above the rates of their peers, which were thrown away.
+    pub over_rate: u64,
 }
 
 impl ServeCounts {

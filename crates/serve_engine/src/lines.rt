@@ -2,7 +2,8 @@
 ghost use Rattle.std.specs.Prelude.{◌≡◌, ◌++◌, OnOk, codes, decimal};
 ghost use Rattle.std.specs.Net.Text.{socket_text};
 ghost use Rattle.serve_engine.specs.Lines.{at_text, batches_text, counted_text, counts_text, happening_text};
-ghost use Rattle.serve_engine.specs.Lines.{is_bad_count, not_allowed_text, peer_text, records_text, refusals_text};
+ghost use Rattle.serve_engine.specs.Lines.{is_bad_count, not_allowed_text, over_rate_text, peer_text, records_text};
+ghost use Rattle.serve_engine.specs.Lines.{refusals_text};
 ghost use Rattle.serve_engine.specs.Lines.{refused_text, way_text};
 
 use crate::counts::ServeCounts;
@@ -29,6 +30,8 @@ pub(crate) enum Happening {
     TurnedAway,
     /// Its peer may not send.
     NotAllowed,
+    /// It was a datagram above the rate of its peer.
+    OverRate,
     /// There was no memory for it, or for what came on it.
     NoMemory,
     /// It was a datagram, for whose record there was no memory.
@@ -142,6 +145,7 @@ pub(crate) fn put_happening(
         Happening::Idle => put_peer(alloc, out, way, b" idle\n"),
         Happening::TurnedAway => put_peer(alloc, out, way, b" closed: too many connections\n"),
         Happening::NotAllowed => put_peer(alloc, out, way, b" not allowed\n"),
+        Happening::OverRate => put_peer(alloc, out, way, b" over-rate\n"),
         Happening::NoMemory => put_peer(alloc, out, way, b" closed: want of memory\n"),
         Happening::Dropped => put_peer(alloc, out, way, b" dropped: want of memory\n"),
     }
@@ -181,7 +185,7 @@ fn put_batches(out: &mut Vec<u8>, counts: &ServeCounts) -> Result<(), AllocError
     put_count(out, b" quiet ", counts.quiet)
 }
 
-// Appends all counts but that of peers that may not send.
+// Appends all counts but those that are told only where they are asked for.
 fn put_counted(out: &mut Vec<u8>, counts: &ServeCounts) -> Result<(), AllocError>
     ensures { OnOk result (out.new.items ≡ out.old.items ++ counted_text counts.now) }
 {
@@ -200,15 +204,29 @@ fn put_not_allowed(out: &mut Vec<u8>, counts: &ServeCounts, asked: bool) -> Resu
     Ok(())
 }
 
-/// Appends the line of counts, with the peers that may not send if somebody asks for them.
+// Appends the count of datagrams above the rates of their peers, if somebody asks for it.
+fn put_over_rate(out: &mut Vec<u8>, counts: &ServeCounts, asked: bool) -> Result<(), AllocError>
+    ensures { OnOk result (out.new.items ≡ out.old.items ++ over_rate_text asked counts.now) }
+{
+    if asked {
+        put_count(out, b" over-rate ", counts.over_rate)?;
+    }
+    Ok(())
+}
+
+/// Appends the line of counts, with the peers that may not send, and the datagrams above the rates of
+/// theirs, if somebody asks for them.
 pub(crate) fn put_counts(
     out: &mut Vec<u8>,
     counts: &ServeCounts,
     with_not_allowed: bool,
+    with_over_rate: bool,
 ) -> Result<(), AllocError>
-    ensures { OnOk result (out.new.items ≡ out.old.items ++ counts_text counts.now with_not_allowed) }
+    ensures { OnOk result (out.new.items
+        ≡ out.old.items ++ counts_text counts.now with_not_allowed with_over_rate) }
 {
     put_counted(out, counts)?;
     put_not_allowed(out, counts, with_not_allowed)?;
+    put_over_rate(out, counts, with_over_rate)?;
     put(out, b"\n")
 }

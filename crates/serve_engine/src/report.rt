@@ -9,7 +9,7 @@ ghost use Rattle.serve_engine.specs.Paces.{GoesByPace, HasLine, PaysFor, SpendsL
 ghost use Rattle.std.specs.Net.Socket.{socket_ip};
 ghost use Rattle.serve_engine.specs.Peers.{number_of, peer_of};
 ghost use Rattle.serve_engine.specs.Refusals.{CountsLost, KeepsEach, KeepsFrame, KeepsNext, KeepsNone, KeepsSilent};
-ghost use Rattle.serve_engine.specs.Refusals.{kept_in, octets_in, outputs_in, peer_counted};
+ghost use Rattle.serve_engine.specs.Refusals.{dropped_counted, kept_in, octets_in, outputs_in, peer_counted};
 ghost use Rattle.serve_engine.specs.declared.turn.Turn.TheVariants.{On};
 
 use crate::counts::ServeCounts;
@@ -64,6 +64,7 @@ impl<N: Output + Drop, R: Output + Drop> Report<N, R> {
                 dropped: 0,
                 quiet: 0,
                 not_allowed: 0,
+                over_rate: 0,
             },
             number: 1,
             way: Way::Unix,
@@ -164,16 +165,22 @@ impl<N: Output + Drop, R: Output + Drop> Report<N, R> {
         self.write_line(made);
     }
 
-    /// Tells the counts, with the peers that may not send if that is asked for.
-    pub(crate) fn tell_counts(&mut self, with_not_allowed: bool)
+    /// Tells the counts, with the peers that may not send, and the datagrams above the rates of theirs,
+    /// if that is asked for.
+    pub(crate) fn tell_counts(&mut self, with_not_allowed: bool, with_over_rate: bool)
         ensures kept { KeepsSilent false (kept_in R.state self.old) (kept_in R.state self.new) }
         ensures told { TellsFew 1 (N.state self.old.notes) (N.state self.new.notes) }
-        ensures counts { TakesSome (counts_text self.old.counts with_not_allowed) (N.state self.old.notes)
-            (N.state self.new.notes) }
+        ensures counts { TakesSome (counts_text self.old.counts with_not_allowed with_over_rate)
+            (N.state self.old.notes) (N.state self.new.notes) }
         ensures pace { self.new.pace ≡ self.old.pace }
     {
         self.line.clear();
-        let made = put_counts(&mut self.line, &self.counts, with_not_allowed);
+        let made = put_counts(
+            &mut self.line,
+            &self.counts,
+            with_not_allowed,
+            with_over_rate,
+        );
         self.write_line(made);
     }
 
@@ -321,6 +328,18 @@ impl<N: Output + Drop, R: Output + Drop> Report<N, R> {
     {
         count_up(&mut self.counts.not_allowed, 1);
         self.tell(alloc, Way::Udp(peer), Happening::NotAllowed);
+    }
+
+    /// Counts a datagram above the rate of its peer, and tells it at the pace of the notes.
+    pub(crate) fn over_rate(&mut self, alloc: Global, peer: SocketAddr)
+        ensures kept { KeepsSilent false (dropped_counted (kept_in R.state self.old)) (kept_in R.state self.new) }
+        ensures pace { GoesByPace self.old.pace self.new.pace (number_of (socket_ip peer)) self.old.counts.quiet
+            self.new.counts.quiet }
+        ensures told { TellsOf (number_of (socket_ip peer)) 1 (told_in N.state self.old)
+            (told_in N.state self.new) }
+    {
+        count_up(&mut self.counts.over_rate, 1);
+        self.tell(alloc, Way::Udp(peer), Happening::OverRate);
     }
 
     /// Counts and tells that a datagram is lost for want of memory, if it is.

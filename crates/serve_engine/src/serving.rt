@@ -35,6 +35,8 @@ pub struct ServeOptions {
     pub count_millis: u64,
     /// Whether the counts that are told have the peers that may not send.
     pub counts_not_allowed: bool,
+    /// Whether the counts that are told have the datagrams above the rates of their peers.
+    pub counts_over_rate: bool,
 }
 
 impl<S: Store + Drop, K: Keeping<S> + Drop, N: Output + Drop, R: Output + Drop> Server<S, K, N, R> {
@@ -86,6 +88,7 @@ impl<S: Store + Drop, K: Keeping<S> + Drop, N: Output + Drop, R: Output + Drop> 
                 peer,
             } => self.turned_away(alloc, framing, peer),
             ServerStep::NotAllowed { listener: _, peer } => self.not_allowed(alloc, peer),
+            ServerStep::OverRate { listener: _, peer } => self.over_rate(alloc, peer),
             ServerStep::Tick => self.tick(alloc, pause.passed(), options),
             ServerStep::InputEnded => Turn::On,
             ServerStep::Finished => self.finish(alloc, ServeEnd::Finished),

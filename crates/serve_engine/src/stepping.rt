@@ -9,7 +9,7 @@ ghost use Rattle.serve_engine.specs.Intakes.{StandsBy, waiting_in};
 ghost use Rattle.serve_engine.specs.Keepings.{Kept};
 ghost use Rattle.serve_engine.specs.Notes.{IsNote, Passes, TellsFew, TellsTurn, told_in};
 ghost use Rattle.serve_engine.specs.Paces.{PaysFor};
-ghost use Rattle.serve_engine.specs.Refusals.{KeepsSilent, kept_in, peer_counted};
+ghost use Rattle.serve_engine.specs.Refusals.{KeepsSilent, dropped_counted, kept_in, peer_counted};
 ghost use Rattle.serve_engine.specs.Serving.{Accepts, ClosesLost, CommitsAll, EndsUnlessFull, FaultsAs};
 ghost use Rattle.serve_engine.specs.Serving.{IsCommitTurn, IsEventTurn, IsToldFull, TellsFull, UnlessStopped};
 ghost use Rattle.serve_engine.specs.Syncs.{MakesAtMost, commit_syncs, turn_syncs};
@@ -233,6 +233,19 @@ impl<S: Store + Drop, K: Keeping<S> + Drop, N: Output + Drop, R: Output + Drop> 
         Turn::On
     }
 
+    // A datagram came above the rate of its peer.
+    pub(crate) fn over_rate(&mut self, alloc: Global, peer: SocketAddr) -> Turn
+        ensures same { self.new.intake ≡ self.old.intake }
+        ensures full { self.new.full ≡ self.old.full }
+        ensures turn { result ≡ On }
+        ensures kept { KeepsSilent false (dropped_counted (kept_in R.state self.old.report))
+            (kept_in R.state self.new.report) }
+        ensures notes { TellsTurn (told_in N.state self.old.report) (told_in N.state self.new.report) }
+    {
+        self.report.over_rate(alloc, peer);
+        Turn::On
+    }
+
     // Nothing is read until what waits is committed, which is tried again. Why is told once.
     fn wait(&mut self, line: &[u8]) -> Turn
         requires { IsNote line.now }
@@ -330,7 +343,8 @@ impl<S: Store + Drop, K: Keeping<S> + Drop, N: Output + Drop, R: Output + Drop> 
         self.waited = self.waited.saturating_add(u64::from(millis));
         if options.count_millis != 0 && self.waited >= options.count_millis {
             self.waited = 0;
-            self.report.tell_counts(options.counts_not_allowed);
+            self.report
+                .tell_counts(options.counts_not_allowed, options.counts_over_rate);
         }
     }
 

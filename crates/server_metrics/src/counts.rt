@@ -16,6 +16,8 @@ pub struct ListenerCounts {
     pub broken: u64,
     /// Datagrams and connections of peers that may not send, of which nothing was read.
     pub not_allowed: u64,
+    /// Datagrams above the rates of their peers, which were thrown away.
+    pub dropped: u64,
 }
 
 /// A listener, and what is counted of it.

@@ -21,6 +21,8 @@ pub(crate) enum Family {
     Refused,
     /// Peers that may not send.
     NotAllowed,
+    /// Datagrams above the rates of their peers.
+    Dropped,
 }
 
 fn family_name(family: Family) -> &'static [u8]
@@ -31,6 +33,7 @@ fn family_name(family: Family) -> &'static [u8]
         Family::Octets => b"syslogbox_received_octets_total",
         Family::Refused => b"syslogbox_refused_frames_total",
         Family::NotAllowed => b"syslogbox_not_allowed_total",
+        Family::Dropped => b"syslogbox_dropped_datagrams_total",
     }
 }
 
@@ -42,6 +45,7 @@ fn family_help(family: Family) -> &'static [u8]
         Family::Octets => b"Octets that came.",
         Family::Refused => b"Frames that were refused, by what is wrong with them.",
         Family::NotAllowed => b"Datagrams and connections of peers that may not send.",
+        Family::Dropped => b"Datagrams that were dropped, above the rates of their peers.",
     }
 }
 
@@ -93,6 +97,7 @@ fn put_row(out: &mut Vec<u8>, family: Family, row: &ListenerRow) -> Result<(), A
         Family::Octets => put_sample(out, name, listener, counts.octets),
         Family::Refused => put_faults(out, listener, counts),
         Family::NotAllowed => put_sample(out, name, listener, counts.not_allowed),
+        Family::Dropped => put_sample(out, name, listener, counts.dropped),
     }
 }
 
@@ -121,5 +126,6 @@ pub(crate) fn put_listeners(out: &mut Vec<u8>, rows: &[ListenerRow]) -> Result<(
     put_family(out, Family::Records, rows)?;
     put_family(out, Family::Octets, rows)?;
     put_family(out, Family::Refused, rows)?;
-    put_family(out, Family::NotAllowed, rows)
+    put_family(out, Family::NotAllowed, rows)?;
+    put_family(out, Family::Dropped, rows)
 }

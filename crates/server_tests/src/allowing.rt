@@ -76,6 +76,10 @@ fn listed(alloc: Global, network: &str, steps: &[ServerStep]) -> Result<MemorySo
     Ok(MemorySource::new(alloc, 2, 1, allowed, items)?)
 }
 
+fn over_rate(peer: SocketAddr) -> ServerStep {
+    ServerStep::OverRate { listener: 0, peer }
+}
+
 #[test]
 fn a_list_gives_steps_of_peers_that_may_send(rt: HostRuntime) -> Result<(), Fail> {
     let good = address("[::ffff:192.0.2.1]:514")?;
@@ -88,6 +92,8 @@ fn a_list_gives_steps_of_peers_that_may_send(rt: HostRuntime) -> Result<(), Fail
         not_allowed(0, other),
         other_away,
         not_allowed(0, good),
+        over_rate(other),
+        over_rate(good),
         datagram(None),
         opened,
         datagram(Some(good)),
@@ -96,6 +102,7 @@ fn a_list_gives_steps_of_peers_that_may_send(rt: HostRuntime) -> Result<(), Fail
     let mut source = listed(rt.alloc(), "192.0.2.0/24", &steps)?;
     for step in [
         not_allowed(0, other),
+        over_rate(good),
         datagram(None),
         opened,
         datagram(Some(good)),
@@ -120,9 +127,9 @@ fn open<'a>(rt: &'a HostRuntime, network: &str) -> Result<SocketSource<'a, HostR
         receive_buffer: None,
     };
     let allowed = only(rt.alloc(), network)?;
-    SocketSource::open(rt, rt.alloc(), &listeners, allowed, options).map_err(|_fault| Fail::from(
-        "no sockets",
-    ))
+    SocketSource::open(rt, rt.alloc(), &listeners, allowed, None, options).map_err(
+        |_fault| Fail::from("no sockets"),
+    )
 }
 
 // Sends a datagram, and tells from where.
@@ -228,6 +235,7 @@ fn served(alloc: Global, steps: &[ServerStep]) -> Result<(Vec<u8>, ServeCounts),
         checkpoint_len: 1,
         count_millis: 1,
         counts_not_allowed: true,
+        counts_over_rate: true,
     };
     let mut nobody = Nobody;
     let _end = server.serve(alloc, &mut source, &mut NoPause, &mut nobody, &options);
@@ -238,20 +246,25 @@ fn served(alloc: Global, steps: &[ServerStep]) -> Result<(Vec<u8>, ServeCounts),
 }
 
 #[test]
-fn peers_that_may_not_send_are_told_and_counted(rt: HostRuntime) -> Result<(), Fail> {
+fn peers_that_may_not_send_or_send_too_much_are_told_and_counted(
+    rt: HostRuntime,
+) -> Result<(), Fail> {
     let steps = [
         datagram(Some(address("192.0.2.1:514")?)),
         not_allowed(0, address("198.51.100.1:7")?),
         not_allowed(0, address("[2001:db8::1]:9")?),
+        over_rate(address("192.0.2.3:11")?),
         ServerStep::Tick,
     ];
     let (notes, counts) = served(rt.alloc(), &steps)?;
     let told = b"198.51.100.1:7 not allowed\n\
         [2001:db8::1]:9 not allowed\n\
+        192.0.2.3:11 over-rate\n\
         received 1 new 1 held 0 refused 0 too-long 0 connections 0 batches 1 octets 19 quiet 0 \
-        not-allowed 2\n";
+        not-allowed 2 over-rate 1\n";
     assert_eq!(rt; notes.as_slice(), told.as_slice());
     assert_eq!(rt; counts.not_allowed, 2);
+    assert_eq!(rt; counts.over_rate, 1);
     assert!(rt; !counts.has_refused());
     Ok(())
 }

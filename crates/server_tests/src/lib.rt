@@ -6,6 +6,8 @@ mod allowing;
 #[cfg(test)]
 mod collecting;
 #[cfg(test)]
+mod rating;
+#[cfg(test)]
 mod serving;
 #[cfg(test)]
 mod sockets;

@@ -213,6 +213,7 @@ fn served_with(
         checkpoint_len: 1,
         count_millis,
         counts_not_allowed: false,
+        counts_over_rate: false,
     };
     let mut nobody = Nobody;
     let end = server.serve(alloc, &mut source, &mut pause, &mut nobody, &options);

@@ -51,6 +51,7 @@ fn open<'a>(
         rt.alloc(),
         listeners,
         AllowList::new(rt.alloc()),
+        None,
         options,
     )
 }

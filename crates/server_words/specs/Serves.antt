@@ -41,16 +41,19 @@ metrics_in rows = optional address_in (first_of (codes "metrics") rows)
 abbrev pub options_in : List Row → Option ServeOptions
 options_in rows =
     option_and_then (λ connections. option_and_then (λ given. option_and_then (λ per_peer. option_and_then (λ idle.
-    option_and_then (λ commit. option_and_then (λ checkpoint. option_and_then (λ metrics. option_map (λ way. record {
+    option_and_then (λ commit. option_and_then (λ checkpoint. option_and_then (λ metrics. option_and_then (λ rate.
+    option_map (λ way. record {
       connections = connections;
       per_peer = per_peer;
       idle_seconds = idle;
       commit_millis = commit;
       checkpoint_mib = checkpoint;
       metrics = metrics;
+      rate = rate;
       until_eof = is_given_in (codes "until-eof") rows;
       reading = way;
-    }) (reading_in rows)) (metrics_in rows)) (option_and_then (number_in 1 2_048) (first_of (codes "checkpoint") rows)))
+    }) (reading_in rows)) (optional (number_in 1 1_000_000) (first_of (codes "rate") rows))) (metrics_in rows))
+    (option_and_then (number_in 1 2_048) (first_of (codes "checkpoint") rows)))
     (option_and_then (number_in 0 3_600_000) (first_of (codes "commit") rows)))
     (optional (number_in 1 31_536_000) (first_of (codes "idle") rows))) (per_peer_of given connections))
     (optional (number_in 1 16_384) (first_of (codes "per-peer") rows)))

@@ -10,7 +10,7 @@ use crate::listeners::{ListenerWords, listeners};
 use crate::networks::networks;
 use clap::ArgMatches;
 use option_values::options::{
-    CHECKPOINT, COMMIT, CONNECTIONS, IDLE, METRICS, NEW_DIR, PER_PEER, UNTIL_EOF,
+    CHECKPOINT, COMMIT, CONNECTIONS, IDLE, METRICS, NEW_DIR, PER_PEER, RATE, UNTIL_EOF,
 };
 use option_values::{Refusal, is_given, number, optional_number, reading_of_matches, value};
 use peer_rules::Network;
@@ -35,6 +35,9 @@ pub struct ServeOptions {
     pub checkpoint_mib: u32,
     /// Where its metrics and its health are shown over HTTP; None means nowhere.
     pub metrics: Option<SocketAddr>,
+    /// How many records a second one address may send, 1 to 1,000,000, with a burst of ten times as many;
+    /// None means any number.
+    pub rate: Option<u32>,
     /// Whether the server ends with standard input.
     pub until_eof: bool,
     /// How frames are read.
@@ -95,6 +98,7 @@ fn options<'a>(matches: &ArgMatches<'a>) -> Result<ServeOptions, Refusal<'a>>
     let commit_millis = number(matches, &COMMIT)?;
     let checkpoint_mib = number(matches, &CHECKPOINT)?;
     let metrics = metrics(matches)?;
+    let rate = optional_number(matches, &RATE)?;
     let reading = reading_of_matches(matches)?;
     Ok(ServeOptions {
         connections,
@@ -103,6 +107,7 @@ fn options<'a>(matches: &ArgMatches<'a>) -> Result<ServeOptions, Refusal<'a>>
         commit_millis,
         checkpoint_mib,
         metrics,
+        rate,
         until_eof: is_given(matches, UNTIL_EOF.name),
         reading,
     })

@@ -11,7 +11,7 @@ use Rattle.peer_rules.proofs.Deciding.{may_send_decides}
 use Rattle.socket_source.specs.Steps.{IsAllowed, Standing, is_peer, may_come}
 use Rattle.socket_source.specs.declared.step.ServerStep.{ServerStep}
 use Rattle.socket_source.specs.declared.step.ServerStep.TheVariants.{Opened, Piece, Ended, Datagram, TurnedAway}
-use Rattle.socket_source.specs.declared.step.ServerStep.TheVariants.{NotAllowed, Tick, InputEnded, Finished, Failed}
+use Rattle.socket_source.specs.declared.step.ServerStep.TheVariants.{NotAllowed, OverRate, Tick, InputEnded, Finished, Failed}
 
 peer_may : (s : Standing) (peer : SocketAddr) → is_peer s.networks peer ≡ true
     → MaySend s.networks (number_of (socket_ip peer))
@@ -27,6 +27,7 @@ allowed_by s (Ended conn end) may = tt
 allowed_by s (Datagram listener None len) may = tt
 allowed_by s (Datagram listener (Some peer) len) may = peer_may s peer (and_parts (nat_lt listener s.listeners) _ may).1
 allowed_by s (TurnedAway listener framing peer) may = peer_may s peer (and_parts (nat_lt listener s.listeners) _ may).1
+allowed_by s (OverRate listener peer) may = peer_may s peer (and_parts (nat_lt listener s.listeners) _ may).1
 allowed_by s (NotAllowed listener peer) may =
     not_from_Decides (is_peer s.networks peer) (may_send_decides s.networks (number_of (socket_ip peer)))
     (not-true (is_peer s.networks peer) (and_parts (nat_lt listener s.listeners) _ may).1)

@@ -9,3 +9,5 @@ pub mod Alternating
 pub mod Places
 pub mod Shares
 pub mod Marks
+pub mod Beginnings
+pub mod Rating

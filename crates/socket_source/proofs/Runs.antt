@@ -13,7 +13,7 @@ use Rattle.socket_source.specs.Waiting.{Keeps, Line}
 use Rattle.socket_source.specs.declared.sockets.Sockets.{Sockets}
 use Rattle.socket_source.specs.declared.step.ServerStep.{ServerStep}
 use Rattle.socket_source.specs.declared.step.ServerStep.TheVariants.{Opened, Piece, Ended, Datagram, TurnedAway}
-use Rattle.socket_source.specs.declared.step.ServerStep.TheVariants.{NotAllowed, Tick, InputEnded, Finished, Failed}
+use Rattle.socket_source.specs.declared.step.ServerStep.TheVariants.{NotAllowed, OverRate, Tick, InputEnded, Finished, Failed}
 
 -- one run behind another
 pub Turns-append : (ts us : List Turn) (old mid new : Line) → Turns ts old mid → Turns us mid new → Turns (ts ++ us) old new
@@ -42,6 +42,7 @@ IsServed-behind n ts us (Ended conn end) is = tt
 IsServed-behind n ts us (Datagram listener peer len) is = some_of-behind (listener_number listener) ts us is
 IsServed-behind n ts us (TurnedAway listener framing peer) is = some_served-behind ts us is
 IsServed-behind n ts us (NotAllowed listener peer) is = some_served-behind ts us is
+IsServed-behind n ts us (OverRate listener peer) is = some_of-behind (listener_number listener) ts us is
 IsServed-behind n ts us Tick is = tt
 IsServed-behind n ts us InputEnded is = some_served-behind ts us is
 IsServed-behind n ts us Finished is = tt
@@ -61,6 +62,7 @@ IsServed-one n number turn (Datagram listener peer len) some is own = own_turn n
     (listener_number listener) turn is own
 IsServed-one n number turn (TurnedAway listener framing peer) some is own = ap (λ (b : Bool). b || false) some
 IsServed-one n number turn (NotAllowed listener peer) some is own = ap (λ (b : Bool). b || false) some
+IsServed-one n number turn (OverRate listener peer) some is own = own_turn number (listener_number listener) turn is own
 IsServed-one n number turn Tick some is own = tt
 IsServed-one n number turn InputEnded some is own = ap (λ (b : Bool). b || false) some
 IsServed-one n number turn Finished some is own = tt
@@ -74,6 +76,7 @@ IsServed-end n (Ended c end) is = tt
 IsServed-end n (Datagram listener peer len) is = absurd is
 IsServed-end n (TurnedAway listener framing peer) is = absurd is
 IsServed-end n (NotAllowed listener peer) is = absurd is
+IsServed-end n (OverRate listener peer) is = absurd is
 IsServed-end n Tick is = absurd is
 IsServed-end n InputEnded is = absurd is
 IsServed-end n Finished is = absurd is

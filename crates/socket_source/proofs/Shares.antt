@@ -13,7 +13,7 @@ use Rattle.socket_source.specs.declared.open_sockets.OpenSockets.{OpenSockets}
 use Rattle.socket_source.specs.declared.share.Share.{Share}
 use Rattle.socket_source.specs.declared.step.ServerStep.{ServerStep}
 use Rattle.socket_source.specs.declared.step.ServerStep.TheVariants.{Opened, Piece, Ended, Datagram, TurnedAway}
-use Rattle.socket_source.specs.declared.step.ServerStep.TheVariants.{NotAllowed, Tick, InputEnded, Finished, Failed}
+use Rattle.socket_source.specs.declared.step.ServerStep.TheVariants.{NotAllowed, OverRate, Tick, InputEnded, Finished, Failed}
 
 -- a part of a round that was divided among those that are ready
 pub part_divided : (most least round ready parts n : ℕ) → n ≤ most → ready ≤ parts → (n ≤ least) ⊎ (n ≤ round / parts)
@@ -79,6 +79,7 @@ bounded_in_share share ready some fewer framings octets (Some (Ended conn end)) 
 bounded_in_share share ready some fewer framings octets (Some (Datagram listener peer len)) is within few still = tt
 bounded_in_share share ready some fewer framings octets (Some (TurnedAway listener framing peer)) is within few still = tt
 bounded_in_share share ready some fewer framings octets (Some (NotAllowed listener peer)) is within few still = tt
+bounded_in_share share ready some fewer framings octets (Some (OverRate listener peer)) is within few still = tt
 bounded_in_share share ready some fewer framings octets (Some Tick) is within few still = tt
 bounded_in_share share ready some fewer framings octets (Some InputEnded) is within few still = tt
 bounded_in_share share ready some fewer framings octets (Some Finished) is within few still = tt
@@ -103,6 +104,7 @@ if_piece_always P always (Some (Ended conn end)) = tt
 if_piece_always P always (Some (Datagram listener peer len)) = tt
 if_piece_always P always (Some (TurnedAway listener framing peer)) = tt
 if_piece_always P always (Some (NotAllowed listener peer)) = tt
+if_piece_always P always (Some (OverRate listener peer)) = tt
 if_piece_always P always (Some Tick) = tt
 if_piece_always P always (Some InputEnded) = tt
 if_piece_always P always (Some Finished) = tt

@@ -12,3 +12,5 @@ pub mod Framings
 pub mod Lines
 pub mod Peers
 pub mod Kinds
+pub mod Paces
+pub mod Places

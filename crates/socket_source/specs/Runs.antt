@@ -4,7 +4,7 @@ use Rattle.std.specs.Prelude.{IfSome}
 use Rattle.socket_source.specs.Waiting.{IsEmpty, Keeps, Line, TakesDatagram, TakesOther}
 use Rattle.socket_source.specs.declared.step.ServerStep.{ServerStep}
 use Rattle.socket_source.specs.declared.step.ServerStep.TheVariants.{Opened, Piece, Ended, Datagram, TurnedAway}
-use Rattle.socket_source.specs.declared.step.ServerStep.TheVariants.{NotAllowed, Tick, InputEnded, Finished, Failed}
+use Rattle.socket_source.specs.declared.step.ServerStep.TheVariants.{NotAllowed, OverRate, Tick, InputEnded, Finished, Failed}
 
 -- nobody has a step, or the socket with this number has one, with which its turn ends or goes on
 pub data Turn : Type 0 where
@@ -66,6 +66,7 @@ IsOwn listeners number (Ended conn end) = Unit {0}
 IsOwn listeners number (Datagram listener peer len) = number ≡ listener_number listener
 IsOwn listeners number (TurnedAway listener framing peer) = Unit {0}
 IsOwn listeners number (NotAllowed listener peer) = Unit {0}
+IsOwn listeners number (OverRate listener peer) = number ≡ listener_number listener
 IsOwn listeners number Tick = Unit {0}
 IsOwn listeners number InputEnded = Unit {0}
 IsOwn listeners number Finished = Unit {0}
@@ -81,6 +82,7 @@ IsServed listeners (Ended conn end) turns = Unit {0}
 IsServed listeners (Datagram listener peer len) turns = some_of (listener_number listener) turns ≡ true
 IsServed listeners (TurnedAway listener framing peer) turns = some_served turns ≡ true
 IsServed listeners (NotAllowed listener peer) turns = some_served turns ≡ true
+IsServed listeners (OverRate listener peer) turns = some_of (listener_number listener) turns ≡ true
 IsServed listeners Tick turns = Unit {0}
 IsServed listeners InputEnded turns = some_served turns ≡ true
 IsServed listeners Finished turns = Unit {0}

@@ -6,7 +6,7 @@ use Rattle.socket_source.specs.Steps.{Standing, Given, behind, finished, may_com
 use Rattle.socket_source.specs.declared.limits.TheConstants.{PIECE_MAX}
 use Rattle.socket_source.specs.declared.step.ServerStep.{ServerStep}
 use Rattle.socket_source.specs.declared.step.ServerStep.TheVariants.{Opened, Piece, Ended, Datagram, TurnedAway}
-use Rattle.socket_source.specs.declared.step.ServerStep.TheVariants.{NotAllowed, Tick, InputEnded, Finished, Failed}
+use Rattle.socket_source.specs.declared.step.ServerStep.TheVariants.{NotAllowed, OverRate, Tick, InputEnded, Finished, Failed}
 
 -- an item of a list: a step, and the octets of a piece or a datagram
 abbrev pub Item : Type 0
@@ -23,6 +23,7 @@ listed (Datagram listener peer len) octets =
     record { step = Datagram listener peer (length (take PIECE_MAX octets)); octets = take PIECE_MAX octets }
 listed (TurnedAway listener framing peer) octets = record { step = TurnedAway listener framing peer; octets = [] }
 listed (NotAllowed listener peer) octets = record { step = NotAllowed listener peer; octets = [] }
+listed (OverRate listener peer) octets = record { step = OverRate listener peer; octets = [] }
 listed Tick octets = record { step = Tick; octets = [] }
 listed InputEnded octets = record { step = InputEnded; octets = [] }
 listed Finished octets = record { step = Finished; octets = [] }

@@ -7,7 +7,7 @@ use Rattle.socket_source.specs.declared.refusal.Reading.TheVariants.{Piece, Ende
 use Rattle.socket_source.specs.declared.step.ConnectionEnd.TheVariants as end
 use Rattle.socket_source.specs.declared.step.ServerStep.{ServerStep}
 use Rattle.socket_source.specs.declared.step.ServerStep.TheVariants as step
-use Rattle.socket_source.specs.declared.step.ServerStep.TheVariants.{Opened, Datagram, TurnedAway, NotAllowed}
+use Rattle.socket_source.specs.declared.step.ServerStep.TheVariants.{Opened, Datagram, TurnedAway, NotAllowed, OverRate}
 use Rattle.socket_source.specs.declared.step.ServerStep.TheVariants.{Tick, InputEnded, Finished, Failed}
 
 -- a number has a connection
@@ -35,6 +35,7 @@ IsOf conn (step.Ended c end) = c ≡ conn
 IsOf conn (Datagram listener peer len) = ⊥
 IsOf conn (TurnedAway listener framing peer) = ⊥
 IsOf conn (NotAllowed listener peer) = ⊥
+IsOf conn (OverRate listener peer) = ⊥
 IsOf conn Tick = ⊥
 IsOf conn InputEnded = ⊥
 IsOf conn Finished = ⊥
@@ -48,6 +49,7 @@ IsEnd (step.Ended conn e) = Unit {0}
 IsEnd (Datagram listener peer len) = ⊥
 IsEnd (TurnedAway listener framing peer) = ⊥
 IsEnd (NotAllowed listener peer) = ⊥
+IsEnd (OverRate listener peer) = ⊥
 IsEnd Tick = ⊥
 IsEnd InputEnded = ⊥
 IsEnd Finished = ⊥
@@ -61,6 +63,7 @@ IsAt listener (step.Ended conn end) = ⊥
 IsAt listener (Datagram l peer len) = l ≡ listener
 IsAt listener (TurnedAway l framing peer) = l ≡ listener
 IsAt listener (NotAllowed l peer) = l ≡ listener
+IsAt listener (OverRate l peer) = l ≡ listener
 IsAt listener Tick = ⊥
 IsAt listener InputEnded = ⊥
 IsAt listener Finished = ⊥
@@ -74,6 +77,7 @@ IsAtOrDisplaced listener (step.Ended conn e) = e ≡ end.Displaced
 IsAtOrDisplaced listener (Datagram l peer len) = l ≡ listener
 IsAtOrDisplaced listener (TurnedAway l framing peer) = l ≡ listener
 IsAtOrDisplaced listener (NotAllowed l peer) = l ≡ listener
+IsAtOrDisplaced listener (OverRate l peer) = l ≡ listener
 IsAtOrDisplaced listener Tick = ⊥
 IsAtOrDisplaced listener InputEnded = ⊥
 IsAtOrDisplaced listener Finished = ⊥
@@ -87,6 +91,7 @@ HasSender (step.Ended conn e) = Unit {0}
 HasSender (Datagram l peer len) = IsSome peer
 HasSender (TurnedAway l framing peer) = Unit {0}
 HasSender (NotAllowed l peer) = Unit {0}
+HasSender (OverRate l peer) = Unit {0}
 HasSender Tick = Unit {0}
 HasSender InputEnded = Unit {0}
 HasSender Finished = Unit {0}

@@ -11,7 +11,7 @@ use Rattle.socket_source.specs.declared.counts.StepCounts.{StepCounts}
 use Rattle.socket_source.specs.declared.limits.TheConstants.{PIECE_MAX}
 use Rattle.socket_source.specs.declared.step.ServerStep.{ServerStep}
 use Rattle.socket_source.specs.declared.step.ServerStep.TheVariants.{Opened, Piece, Ended, Datagram, TurnedAway}
-use Rattle.socket_source.specs.declared.step.ServerStep.TheVariants.{NotAllowed, Tick, InputEnded, Finished, Failed}
+use Rattle.socket_source.specs.declared.step.ServerStep.TheVariants.{NotAllowed, OverRate, Tick, InputEnded, Finished, Failed}
 
 -- the numbers that are open, below a limit; how many listeners there are; and the networks whose addresses may send
 pub record Standing : Type 0 where
@@ -29,8 +29,8 @@ is_sender networks None = true
 is_sender networks (Some peer) = is_peer networks peer
 
 -- Whether a step may come. A connection opens under a number that is not open, gives octets while it is open, and ends
--- once. It is opened, or turned away, and a datagram is given, if its peer may send; it is told of any other peer that it
--- may not.
+-- once. It is opened, or turned away, and a datagram is given, or is above the rate of its peer, if its peer may send; it is
+-- told of any other peer that it may not.
 abbrev pub may_come : Standing → ServerStep → Bool
 may_come s (Opened conn listener framing peer) =
     nat_lt listener s.listeners && (nat_lt conn s.limit && (not (s.live conn) && is_peer s.networks peer))
@@ -39,6 +39,7 @@ may_come s (Ended conn end) = s.live conn
 may_come s (Datagram listener peer len) = nat_lt listener s.listeners && is_sender s.networks peer
 may_come s (TurnedAway listener framing peer) = nat_lt listener s.listeners && is_peer s.networks peer
 may_come s (NotAllowed listener peer) = nat_lt listener s.listeners && not (is_peer s.networks peer)
+may_come s (OverRate listener peer) = nat_lt listener s.listeners && is_peer s.networks peer
 may_come s Tick = true
 may_come s InputEnded = true
 may_come s Finished = true
@@ -60,6 +61,7 @@ open_after (Ended conn end) live n = without_open conn live n
 open_after (Datagram listener peer len) live n = live n
 open_after (TurnedAway listener framing peer) live n = live n
 open_after (NotAllowed listener peer) live n = live n
+open_after (OverRate listener peer) live n = live n
 open_after Tick live n = live n
 open_after InputEnded live n = live n
 open_after Finished live n = live n
@@ -80,6 +82,7 @@ IsWithin room (Ended conn end) = Unit {0}
 IsWithin room (Datagram listener peer len) = len ≤ room
 IsWithin room (TurnedAway listener framing peer) = Unit {0}
 IsWithin room (NotAllowed listener peer) = Unit {0}
+IsWithin room (OverRate listener peer) = Unit {0}
 IsWithin room Tick = Unit {0}
 IsWithin room InputEnded = Unit {0}
 IsWithin room Finished = Unit {0}
@@ -111,6 +114,7 @@ counted c (Ended conn end) = record c { steps = count_on c.steps }
 counted c (Datagram listener peer len) = record c { steps = count_on c.steps }
 counted c (TurnedAway listener framing peer) = record c { steps = count_on c.steps }
 counted c (NotAllowed listener peer) = record c { steps = count_on c.steps }
+counted c (OverRate listener peer) = record c { steps = count_on c.steps }
 counted c Tick = record c { steps = count_on c.steps }
 counted c InputEnded = record c { steps = count_on c.steps }
 counted c Finished = record c { steps = count_on c.steps; finishes = count_on c.finishes }
@@ -129,6 +133,7 @@ octets_of (Ended conn end) buf = []
 octets_of (Datagram listener peer len) buf = take len buf
 octets_of (TurnedAway listener framing peer) buf = []
 octets_of (NotAllowed listener peer) buf = []
+octets_of (OverRate listener peer) buf = []
 octets_of Tick buf = []
 octets_of InputEnded buf = []
 octets_of Finished buf = []
@@ -171,6 +176,7 @@ IsAllowed networks (Datagram listener None len) = Unit {0}
 IsAllowed networks (Datagram listener (Some peer) len) = MaySend networks (number_of (socket_ip peer))
 IsAllowed networks (TurnedAway listener framing peer) = MaySend networks (number_of (socket_ip peer))
 IsAllowed networks (NotAllowed listener peer) = ¬ (MaySend networks (number_of (socket_ip peer)))
+IsAllowed networks (OverRate listener peer) = MaySend networks (number_of (socket_ip peer))
 IsAllowed networks Tick = Unit {0}
 IsAllowed networks InputEnded = Unit {0}
 IsAllowed networks Finished = Unit {0}

@@ -10,7 +10,7 @@ use Rattle.socket_source.specs.declared.refusal.Reading.TheVariants as reading
 use Rattle.socket_source.specs.declared.share.Share.{Share}
 use Rattle.socket_source.specs.declared.step.ServerStep.{ServerStep}
 use Rattle.socket_source.specs.declared.step.ServerStep.TheVariants.{Opened, Piece, Ended, Datagram, TurnedAway}
-use Rattle.socket_source.specs.declared.step.ServerStep.TheVariants.{NotAllowed, Tick, InputEnded, Finished, Failed}
+use Rattle.socket_source.specs.declared.step.ServerStep.TheVariants.{NotAllowed, OverRate, Tick, InputEnded, Finished, Failed}
 
 -- Whether the octet at a place may be the last of a frame of lines, or of the count before a frame (RFC 6587, 3.4.1: MSG-LEN SP). The
 -- digit before the first octet may have come before.
@@ -45,6 +45,7 @@ IfPiece P (Ended conn end) = Unit {0}
 IfPiece P (Datagram listener peer len) = Unit {0}
 IfPiece P (TurnedAway listener framing peer) = Unit {0}
 IfPiece P (NotAllowed listener peer) = Unit {0}
+IfPiece P (OverRate listener peer) = Unit {0}
 IfPiece P Tick = Unit {0}
 IfPiece P InputEnded = Unit {0}
 IfPiece P Finished = Unit {0}

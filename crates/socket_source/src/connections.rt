@@ -1,24 +1,26 @@
 //! The connections that are open.
-ghost use Rattle.std.specs.Prelude.{◌≡◌, ◌≤◌, ◌<◌, length, true, false, IfSome, IfNone, IfOk, IsTrue, ℕ};
+ghost use Rattle.std.specs.Prelude.{◌≡◌, ◌≤◌, ◌<◌, length, true, false, IfSome, IfNone, IfOk, IsTrue, ℕ, option_map, slice_set};
 ghost use Rattle.socket_source.specs.Steps.{with_open, without_open};
 ghost use Rattle.socket_source.specs.Sockets.{open_in, IsOpenedAs, ReadsWithin};
 ghost use Rattle.socket_source.specs.Turns.{ReadsFront};
 ghost use Rattle.socket_source.specs.Framings.{framing_in, rank_in};
+ghost use Rattle.slab.specs.Slab.{get};
 ghost use Rattle.socket_source.specs.Peers.{count_of};
+ghost use Rattle.socket_source.specs.Places.{ReadsFew, begun, place_at, place_in};
 
-use crate::connection::Connection;
+use crate::connection::{Allowance, Connection};
 use crate::limits::{CONNECTIONS_MAX, TURN_OCTETS};
 use crate::peers::Peers;
+use crate::place::Place;
 use crate::refusal::{Reading, ended_if_dry};
 use crate::share::Share;
 use crate::system::first_kept_descriptor;
-use mio::net::TcpStream;
 use mio::{Interest, Registry, Token};
 use slab::Slab;
 use std::alloc::{AllocError, Global};
+use std::net::IpAddr;
 use std::os::fd::{AsRawFd, RawFd};
 use std::time::{Duration, Instant};
-use syslog_frame::Framing;
 
 /// Connections under numbers below a limit. A number is found in constant time, and given again
 /// only once its connection was closed. Room for all is allocated at the beginning.
@@ -27,6 +29,8 @@ pub(crate) struct Connections {
     pub(crate) streams: Slab<Connection>,
     // when each last gave octets
     heard: Vec<Instant>,
+    // where in its stream each is, if its peer has a rate
+    pub(crate) places: Vec<Place>,
     // room for the octets of a turn, which are read once to see them and once to take them
     spent: Vec<u8>,
     pub(crate) limit: usize,
@@ -62,6 +66,7 @@ impl Connections {
         Ok(Connections {
             streams: Slab::with_capacity(alloc, limit)?,
             heard: vec![in alloc; now; limit]?,
+            places: vec![in alloc; Place::Between; limit]?,
             spent: vec![in alloc; 0u8; TURN_OCTETS]?,
             limit,
             kept: first_kept_descriptor(),
@@ -94,34 +99,29 @@ impl Connections {
         &mut self,
         registry: &Registry,
         first: usize,
-        mut stream: TcpStream,
-        framing: Framing,
-        peer: u128,
+        mut connection: Connection,
         now: Instant,
     ) -> Option<u32>
         ensures kept { IfSome result (λ conn. IsOpenedAs self.old.streams self.new.streams self.old.limit conn) }
-        ensures framing { IfSome result (λ conn. framing_in self.new.streams conn ≡ Some framing) }
+        ensures framing { IfSome result (λ conn. framing_in self.new.streams conn ≡ Some connection.framing) }
         // A host has no more than it may.
-        ensures few { IfSome result (λ conn. count_of self.new.peers peer ≤ self.old.per_peer) }
+        ensures few { IfSome result (λ conn. count_of self.new.peers connection.peer ≤ self.old.per_peer) }
         ensures none { IfNone result ((n : ℕ) → open_in self.new.streams n ≡ open_in self.old.streams n) }
         ensures limit { self.new.limit ≡ self.old.limit }
     {
-        let key = self.vacant_number(stream.as_raw_fd(), peer)?;
+        let peer = connection.peer;
+        let key = self.vacant_number(connection.stream.as_raw_fd(), peer)?;
         let token = Token(first.saturating_add(key));
         registry
-            .register(&mut stream, token, Interest::READABLE)
+            .register(&mut connection.stream, token, Interest::READABLE)
             .ok()?;
         self.peers.add(peer).ok()?;
-        let connection = Connection {
-            stream,
-            framing,
-            peer,
-        };
         let Ok(key) = self.streams.insert(connection) else {
             self.peers.remove(peer);
             return None;
         };
         self.note_heard(key, now);
+        self.note_place(key, Place::Between);
         Some(key as u32)
     }
 
@@ -141,19 +141,94 @@ impl Connections {
         Some(ended_if_dry(connection.look()))
     }
 
-    /// Reads a share of what a connection has.
-    pub(crate) fn read(&mut self, conn: u32, share: Share, now: Instant, buf: &mut [u8]) -> Reading
+    /// The address of a connection's peer.
+    pub(crate) fn address(&self, conn: u32) -> Option<IpAddr>
+        ensures { result ≡ option_map (λ c. c.address) (get self.now.streams conn) }
+    {
+        match self.streams.get(conn as usize) {
+            Some(connection) => Some(connection.address),
+            None => None,
+        }
+    }
+
+    // Where in its stream a connection is, if so many more frames may begin.
+    fn allowance(&self, key: usize, room: Option<u64>) -> Option<Allowance>
+        ensures { result ≡ option_map (λ room. record { place = place_in self.now.places.items key; room = room }) room }
+    {
+        match room {
+            Some(room) => Some(Allowance {
+                place: self.place(key),
+                room,
+            }),
+            None => None,
+        }
+    }
+
+    fn place(&self, key: usize) -> Place
+        ensures { result ≡ place_in self.now.places.items key }
+    {
+        self.places.get(key).copied().unwrap_or(Place::Between)
+    }
+
+    // A connection is at this place of its stream.
+    fn note_place(&mut self, key: usize, place: Place)
+        ensures places { self.new.places.items ≡ slice_set self.old.places.items key place }
+        ensures same { self.new.streams ≡ self.old.streams }
+        ensures peers { self.new.peers ≡ self.old.peers }
+        ensures limit { self.new.limit ≡ self.old.limit }
+    {
+        if let Some(known) = self.places.get_mut(key) {
+            *known = place;
+        }
+    }
+
+    /// How many frames begin in the first `len` octets, which a connection has given.
+    pub(crate) fn begin(&mut self, conn: u32, octets: &[u8], len: usize) -> u64
+        requires { len ≤ length octets.now }
+        ensures frames { IfSome (framing_in self.old.streams conn) (λ framing.
+            result ≡ begun framing (place_in self.old.places.items conn) octets.now len) }
+        ensures places { IfSome (framing_in self.old.streams conn) (λ framing.
+            self.new.places.items ≡ slice_set self.old.places.items conn
+            (place_at framing (place_in self.old.places.items conn) octets.now len)) }
+        ensures same { self.new.streams ≡ self.old.streams }
+        ensures limit { self.new.limit ≡ self.old.limit }
+    {
+        let key = conn as usize;
+        let Some(connection) = self.streams.get(key) else {
+            return 0;
+        };
+        let begun = self
+            .place(key)
+            .begin(connection.framing, octets, len, u64::MAX);
+        self.note_place(key, begun.place);
+        begun.frames
+    }
+
+    /// Reads a share of what a connection has, in which no more frames begin than there is room for,
+    /// if that is bounded.
+    pub(crate) fn read(
+        &mut self,
+        conn: u32,
+        share: Share,
+        room: Option<u64>,
+        now: Instant,
+        buf: &mut [u8],
+    ) -> Reading
         requires { 0 < share.frames }
+        ensures few { IfSome room (λ room. IfSome (framing_in self.new.streams conn) (λ framing.
+            ReadsFew framing (place_in self.old.places.items conn) room buf.new result)) }
+        ensures places { self.new.places ≡ self.old.places }
         ensures within { ReadsWithin (length buf.new) result }
         ensures bounded { IfSome (framing_in self.new.streams conn) (λ framing. ReadsFront share framing buf.new result) }
         ensures same { self.new.streams ≡ self.old.streams }
         ensures limit { self.new.limit ≡ self.old.limit }
     {
         let key = conn as usize;
+        let allowance = self.allowance(key, room);
         let Some(connection) = self.streams.get(key) else {
             return Reading::Dry;
         };
-        let reading = connection.read(share, buf, &mut self.spent);
+        let reading = connection.read(share, allowance, buf, &mut self.spent);
         if matches!(reading, Reading::Piece(_)) {
             self.note_heard(key, now);
         }
@@ -227,6 +302,7 @@ impl Connections {
 
     // A connection gives octets now.
     fn note_heard(&mut self, key: usize, now: Instant)
+        ensures places { self.new.places ≡ self.old.places }
         ensures same { self.new.streams ≡ self.old.streams }
         ensures peers { self.new.peers ≡ self.old.peers }
         ensures limit { self.new.limit ≡ self.old.limit }

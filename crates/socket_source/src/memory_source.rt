@@ -112,7 +112,7 @@ fn may_come(
         ServerStep::Datagram { listener, peer, .. } => {
             listener < listeners && is_sender(allowed, peer)
         }
-        ServerStep::TurnedAway { listener, peer, .. } => {
+        ServerStep::TurnedAway { listener, peer, .. } | ServerStep::OverRate { listener, peer } => {
             listener < listeners && is_peer(allowed, peer)
         }
         ServerStep::NotAllowed { listener, peer } => {

@@ -2,17 +2,22 @@
 ghost use Rattle.std.specs.Prelude.{◌≡◌, ℕ, ◌+◌, ◌<◌, ◌≤◌, false, true, length, slice_get, vec_len, IfNone, IfSome};
 ghost use Rattle.std.specs.Prelude.{IsSome, None};
 ghost use Rattle.socket_source.specs.Kinds.{is_addressed};
+ghost use Rattle.slab.specs.Slab.{get};
+ghost use Rattle.socket_source.specs.Paces.{Charges, IsPaced, IsReadAtRate};
+ghost use Rattle.socket_source.specs.Places.{begun, place_in};
 ghost use Rattle.socket_source.specs.Runs.{IsOwn};
 ghost use Rattle.socket_source.specs.Sockets.{HasSender, IsAt, IsAtOrDisplaced, IsEnd, IsOf};
 ghost use Rattle.peer_rules.specs.AllowLists.{networks_of};
-ghost use Rattle.socket_source.specs.Steps.{Becomes, IfLawful, IsLawful, is_peer, is_sender, without_open};
+ghost use Rattle.socket_source.specs.Steps.{Becomes, IfLawful, IsLawful, is_peer, without_open};
 ghost use Rattle.socket_source.specs.Turns.{IsWithinShare};
 ghost use Rattle.socket_source.specs.declared.refusal.Retry.TheVariants.{Reported};
 ghost use Rattle.socket_source.specs.declared.step.ServerStep.TheVariants.{Datagram, Ended, NotAllowed};
 
 use crate::allowed::is_peer;
 use crate::bound::{Bound, accept_from, receive};
+use crate::connection::Connection;
 use crate::connections::Connections;
+use crate::pace::Pace;
 use crate::peers::host_number;
 use crate::ready::listener_number;
 use crate::refusal::{Reading, Refusal, Retry, retry_of};
@@ -22,7 +27,7 @@ use crate::system::spare_descriptor;
 use mio::Poll;
 use mio::net::TcpStream;
 use peer_rules::AllowList;
-use std::net::SocketAddr;
+use std::net::{IpAddr, SocketAddr};
 use std::os::fd::OwnedFd;
 use std::time::Instant;
 use syslog_frame::Framing;
@@ -61,6 +66,8 @@ pub(crate) struct OpenSockets {
     pub(crate) connections: Connections,
     // whose datagrams and connections are taken
     pub(crate) allowed: AllowList,
+    // and how fast
+    pub(crate) pace: Pace,
     pub(crate) spare: Option<OwnedFd>,
     // the connection for which another has just ended
     pub(crate) arrived: Option<Arrived>,
@@ -117,12 +124,14 @@ impl OpenSockets {
             return ServerStep::NotAllowed { listener, peer };
         }
         let first = listener_number(self.listeners.len());
-        let number = host_number(peer);
         let registry = self.poll.registry();
-        match self
-            .connections
-            .keep(registry, first, stream, framing, number, now)
-        {
+        let connection = Connection {
+            stream,
+            framing,
+            peer: host_number(peer),
+            address: peer.ip(),
+        };
+        match self.connections.keep(registry, first, connection, now) {
             Some(conn) => ServerStep::Opened {
                 conn,
                 listener,
@@ -241,30 +250,86 @@ impl OpenSockets {
         taken
     }
 
-    // The step of a datagram of so many octets: if its sender may not send, it is thrown away.
-    fn received(&self, listener: usize, peer: Option<SocketAddr>, len: usize) -> ServerStep
-        requires { listener < vec_len self.now.listeners }
-        ensures lawful { IsLawful (standing_of self.now) (standing_of self.now) len result }
+    // The step of a datagram of so many octets from an address that may send: if it is above its rate,
+    // the datagram is thrown away.
+    fn let_through(
+        &mut self,
+        listener: usize,
+        peer: SocketAddr,
+        len: usize,
+        now: Instant,
+    ) -> ServerStep
+        requires known { listener < vec_len self.old.listeners }
+        requires may { is_peer (networks_of self.old.allowed) peer ≡ true }
+        ensures lawful { IsLawful (standing_of self.old) (standing_of self.new) len result }
         ensures at { IsAt listener result }
-        ensures given { is_sender (networks_of self.now.allowed) peer ≡ true
-            → result ≡ Datagram listener peer len }
-        ensures elsewhere { IfSome peer (λ address. is_peer (networks_of self.now.allowed) address ≡ false
+        ensures from { HasSender result }
+        ensures paced { IsPaced self.old.pace self.new.pace peer now listener len result }
+    {
+        if self.pace.take(peer.ip(), now, 1) == 0 {
+            return ServerStep::OverRate { listener, peer };
+        }
+        ServerStep::Datagram {
+            listener,
+            peer: Some(peer),
+            len,
+        }
+    }
+
+    // The step of a datagram of so many octets from an address: if it may not send, or is above its
+    // rate, the datagram is thrown away.
+    fn received_from(
+        &mut self,
+        listener: usize,
+        peer: SocketAddr,
+        len: usize,
+        now: Instant,
+    ) -> ServerStep
+        requires { listener < vec_len self.old.listeners }
+        ensures lawful { IsLawful (standing_of self.old) (standing_of self.new) len result }
+        ensures at { IsAt listener result }
+        ensures from { HasSender result }
+        ensures paced { is_peer (networks_of self.old.allowed) peer ≡ true
+            → IsPaced self.old.pace self.new.pace peer now listener len result }
+        ensures elsewhere { is_peer (networks_of self.old.allowed) peer ≡ false
+            → result ≡ NotAllowed listener peer }
+    {
+        if is_peer(&self.allowed, peer) {
+            return self.let_through(listener, peer, len, now);
+        }
+        ServerStep::NotAllowed { listener, peer }
+    }
+
+    // The step of a datagram of so many octets. One without an address is given in any case.
+    fn received(
+        &mut self,
+        listener: usize,
+        peer: Option<SocketAddr>,
+        len: usize,
+        now: Instant,
+    ) -> ServerStep
+        requires { listener < vec_len self.old.listeners }
+        ensures lawful { IsLawful (standing_of self.old) (standing_of self.new) len result }
+        ensures at { IsAt listener result }
+        ensures given { IfNone peer (result ≡ Datagram listener None len) }
+        ensures paced { IfSome peer (λ address. is_peer (networks_of self.old.allowed) address ≡ true
+            → IsPaced self.old.pace self.new.pace address now listener len result) }
+        ensures elsewhere { IfSome peer (λ address. is_peer (networks_of self.old.allowed) address ≡ false
             → result ≡ NotAllowed listener address) }
+        ensures from { IsSome peer → HasSender result }
     {
         match peer {
-            Some(peer) if !is_peer(&self.allowed, peer) => {
-                ServerStep::NotAllowed { listener, peer }
-            }
-            peer => ServerStep::Datagram {
+            Some(peer) => self.received_from(listener, peer, len, now),
+            None => ServerStep::Datagram {
                 listener,
-                peer,
+                peer: None,
                 len,
             },
         }
     }
 
     // Receives a datagram.
-    fn receive(&mut self, listener: usize, buf: &mut [u8]) -> Taken
+    fn receive(&mut self, listener: usize, now: Instant, buf: &mut [u8]) -> Taken
         ensures at { IfSome result.step (IsAt listener) }
         ensures lawful { IfLawful (standing_of self.old) (standing_of self.new) (length buf.new) result.step }
         // where its senders have addresses, a datagram comes with one
@@ -275,7 +340,7 @@ impl OpenSockets {
             return Taken::none(Retry::Reported);
         };
         match receive(socket, *addressed, buf) {
-            Ok((len, peer)) => Taken::some(self.received(listener, peer, len), Retry::Now),
+            Ok((len, peer)) => Taken::some(self.received(listener, peer, len, now), Retry::Now),
             Err(refusal) => Taken::none(retry_of(refusal)),
         }
     }
@@ -310,18 +375,42 @@ impl OpenSockets {
         }
     }
 
-    /// Reads a share of a connection, if one is open under the number.
+    // Charges the frames that begin in the first `len` octets, which a connection gave, to its peer.
+    fn charge(&mut self, conn: u32, peer: IpAddr, now: Instant, octets: &[u8], len: usize)
+        requires { len ≤ length octets.now }
+        ensures standing { standing_of self.new ≡ standing_of self.old }
+        ensures framings { framings_of self.new ≡ framings_of self.old }
+        ensures charged { IfSome (framings_of self.old conn) (λ framing. Charges self.old.pace self.new.pace peer now
+            (begun framing (place_in self.old.connections.places.items conn) octets.now len)) }
+    {
+        if self.pace.is_bounded() {
+            let frames = self.connections.begin(conn, octets, len);
+            let _passed = self.pace.take(peer, now, frames);
+        }
+    }
+
+    /// Reads a share of a connection, if one is open under the number, and if its peer may send another
+    /// frame now. No more frames begin in what it gives than its peer may send; each is charged to it.
     pub(crate) fn read(&mut self, conn: u32, share: Share, now: Instant, buf: &mut [u8]) -> Taken
         requires { 0 < share.frames }
         ensures of { IfSome result.step (IsOf conn) }
         ensures lawful { IfLawful (standing_of self.old) (standing_of self.new) (length buf.new) result.step }
         ensures bounded { IfSome result.step (IsWithinShare share (framings_of self.new) buf.new) }
+        ensures paced { IfSome (get self.old.connections.streams conn) (λ c. IsReadAtRate self.old.pace self.new.pace c
+            (place_in self.old.connections.places.items conn) now buf.new result) }
     {
-        if !self.connections.is_open(conn) {
+        let Some(peer) = self.connections.address(conn) else {
             return Taken::none(Retry::Reported);
+        };
+        let room = self.pace.room(peer, now);
+        if room == Some(0) {
+            return Taken::none(Retry::Slowed);
         }
-        match self.connections.read(conn, share, now, buf) {
-            Reading::Piece(len) => Taken::some(ServerStep::Piece { conn, len }, Retry::Now),
+        match self.connections.read(conn, share, room, now, buf) {
+            Reading::Piece(len) => {
+                self.charge(conn, peer, now, buf, len);
+                Taken::some(ServerStep::Piece { conn, len }, Retry::Now)
+            }
             Reading::Ended(end) => self.end(conn, end),
             Reading::Again => Taken::none(Retry::Now),
             Reading::Dry => Taken::none(Retry::Reported),
@@ -348,7 +437,7 @@ impl OpenSockets {
                 Some(step) => Taken::some(step, Retry::Now),
                 None => self.accept(socket, now),
             },
-            Some(Bound::Datagrams { .. }) => self.receive(socket, buf),
+            Some(Bound::Datagrams { .. }) => self.receive(socket, now, buf),
             None => {
                 let conn = socket.saturating_sub(self.listeners.len());
                 match u32::try_from(conn) {

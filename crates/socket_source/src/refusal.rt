@@ -109,6 +109,8 @@ pub(crate) enum Retry {
     Now,
     /// When a connection ends, or with the next tick.
     Later,
+    /// When its peer may send more.
+    Slowed,
 }
 
 /// When a listener's socket is tried again after a refusal. It stays open whatever the refusal was.

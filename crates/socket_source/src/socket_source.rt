@@ -12,7 +12,7 @@ use crate::options::SourceOptions;
 use crate::sockets::Sockets;
 use crate::source::ServerSource;
 use crate::step::ServerStep;
-use peer_rules::AllowList;
+use peer_rules::{AllowList, Rates};
 use std::alloc::Global;
 use std::net::{Net, SocketAddr};
 use std::rt::{Clock, Files};
@@ -39,6 +39,7 @@ impl<'a, R: Net + Files + Clock> SocketSource<'a, R> {
         alloc: Global,
         listeners: &[Listener<'_>],
         allowed: AllowList,
+        rates: Option<Rates>,
         options: SourceOptions,
     ) -> Result<SocketSource<'a, R>, OpenFault>
         ensures fresh { IfOk result (λ source. IsFresh (⟦<SocketSource<'a, R> as ServerSource>⟧.state source)
@@ -47,7 +48,7 @@ impl<'a, R: Net + Files + Clock> SocketSource<'a, R> {
         // A listener's fault is that of one of these, and nobody asks about standard input in vain.
         ensures told { IfErr result (IsFaultOf (length listeners.now) options.until_eof) }
     {
-        match Sockets::open(rt, alloc, listeners, allowed, options) {
+        match Sockets::open(rt, alloc, listeners, allowed, rates, options) {
             Ok(sockets) => Ok(SocketSource {
                 sockets,
                 counts: StepCounts::new(),

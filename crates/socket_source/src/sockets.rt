@@ -16,14 +16,15 @@ use crate::open_fault::OpenFault;
 use crate::open_sockets::{OpenSockets, Taken};
 use crate::opening::{check_descriptors, open_listeners};
 use crate::options::SourceOptions;
-use crate::ready::{INPUT_NUMBER, listener_number};
+use crate::pace::Pace;
+use crate::ready::{INPUT_NUMBER, ReadyQueue, listener_number};
 use crate::ready_sockets::{Chosen, ReadySockets};
 use crate::refusal::Retry;
 use crate::share::Share;
 use crate::step::{ConnectionEnd, ServerStep, SourceFault};
 use crate::system::spare_descriptor;
 use mio::{Events, Poll};
-use peer_rules::AllowList;
+use peer_rules::{AllowList, Rates};
 use std::alloc::Global;
 use std::net::Net;
 use std::rt::{Clock, Files};
@@ -43,6 +44,9 @@ const EARLY_MAX: u64 = 60_000;
 
 // for how long what waits in the sockets is read once standard input has ended, in seconds
 const DRAIN_SECONDS: u64 = 10;
+
+// how often connections are tried again whose peers were above their rates, in milliseconds
+const SLOWED_MILLIS: u64 = 100;
 
 // how often silent connections are looked for, in seconds
 const SWEEP_SECONDS: u64 = 1;
@@ -74,6 +78,9 @@ pub(crate) struct Sockets<'a, R> {
     round: usize,
     // some listener is to be tried again
     later: bool,
+    // the connections that wait until their peers may send more, and when such were last tried again
+    slowed: ReadyQueue,
+    slowed_since: Instant,
     period: Duration,
     ticked: Instant,
     // a tick comes behind each step that has read octets
@@ -110,6 +117,23 @@ impl<'a, R: Clock> Sockets<'a, R> {
             self.later = false;
             for listener in 0..self.held.listeners.len() {
                 self.ready.push(listener_number(listener));
+            }
+        }
+    }
+
+    // Has the connections tried again whose peers were above their rates, if it is time.
+    fn retry_slowed(&mut self, now: Instant)
+        ensures standing { standing self.new ≡ standing self.old }
+        ensures stays { self.new.held ≡ self.old.held }
+        ensures order { Keeps (line self.old) (line self.new) }
+    {
+        if now.duration_since(self.slowed_since) < Duration::from_millis(SLOWED_MILLIS) {
+            return;
+        }
+        self.slowed_since = now;
+        for _turn in 0..self.slowed.len() {
+            if let Some(number) = self.slowed.next() {
+                self.ready.push(number);
             }
         }
     }
@@ -185,6 +209,7 @@ impl<'a, R: Clock> Sockets<'a, R> {
             Retry::Reported => {}
             Retry::Now => self.ready.stay(chosen),
             Retry::Later => self.later = true,
+            Retry::Slowed => self.slowed.push(chosen.number()),
         }
     }
 
@@ -261,10 +286,16 @@ impl<'a, R: Clock> Sockets<'a, R> {
 
     // How long the system may be waited for.
     fn patience(&self, now: Instant) -> Duration {
-        if self.ready.len() > 0 || !matches!(self.input, InputState::Open) {
+        if self.ready.len() > 0 {
             return Duration::ZERO;
         }
         let tick = self.period.saturating_sub(now.duration_since(self.ticked));
+        if self.slowed.len() > 0 {
+            return tick.min(Duration::from_millis(SLOWED_MILLIS));
+        }
+        if !matches!(self.input, InputState::Open) {
+            return Duration::ZERO;
+        }
         match self.idle {
             Some(_) => tick.min(Duration::from_secs(SWEEP_SECONDS)),
             None => tick,
@@ -272,13 +303,14 @@ impl<'a, R: Clock> Sockets<'a, R> {
     }
 
     // Asks the system which sockets are ready, and puts them behind those that were. It waits where
-    // none was.
+    // none was. What waits when standard input has ended is read at the rates of its peers, too.
     fn ask(&mut self, now: Instant) -> Option<ServerStep>
         ensures lawful { IfLawful (standing self.old) (standing self.new) 0 result }
         ensures order { Keeps (line self.old) (line self.new) }
         ensures unserved { IfSome result (λ step. (n : ℕ) → IsServed n step []) }
         ensures round { IfNone result (self.new.round ≡ min (ready_in (line self.new)) ROUND_MAX) }
     {
+        self.retry_slowed(now);
         let patience = self.patience(now);
         if self
             .held
@@ -290,7 +322,8 @@ impl<'a, R: Clock> Sockets<'a, R> {
         }
         self.ready.push_reported(&self.events);
         self.round = self.ready.len().min(ROUND_MAX);
-        if self.round == 0 && matches!(self.input, InputState::Draining(_)) {
+        let none_waits = self.round == 0 && self.slowed.len() == 0;
+        if none_waits && matches!(self.input, InputState::Draining(_)) {
             self.input = InputState::Drained;
         }
         None
@@ -421,6 +454,7 @@ impl<'a, R: Net + Files + Clock> Sockets<'a, R> {
         alloc: Global,
         listeners: &[Listener<'_>],
         allowed: AllowList,
+        rates: Option<Rates>,
         options: SourceOptions,
     ) -> Result<Sockets<'a, R>, OpenFault>
         ensures vacant { IfOk result (λ sockets. IsVacant (standing sockets)
@@ -453,6 +487,7 @@ impl<'a, R: Net + Files + Clock> Sockets<'a, R> {
                 listeners: bound,
                 connections: Connections::new(alloc, limit, options.per_peer, now)?,
                 allowed,
+                pace: Pace::new(rates, now),
                 spare: spare_descriptor(),
                 arrived: None,
             },
@@ -460,6 +495,8 @@ impl<'a, R: Net + Files + Clock> Sockets<'a, R> {
             ready,
             round: 0,
             later: false,
+            slowed: ReadyQueue::new(alloc, numbers)?,
+            slowed_since: now,
             period: options.period.max(Duration::from_millis(PERIOD_MIN_MILLIS)),
             ticked: now,
             at_once: options.period.is_zero(),

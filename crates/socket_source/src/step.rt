@@ -68,6 +68,12 @@ pub enum ServerStep {
         listener: usize,
         peer: SocketAddr,
     },
+    /// A datagram came to a listener from an address that has sent as much as its rate lets through: it is
+    /// thrown away.
+    OverRate {
+        listener: usize,
+        peer: SocketAddr,
+    },
     /// The time of a period is up, or the last step read octets and a tick is to follow it.
     Tick,
     /// Standard input has ended. What waits in the sockets may still come.

@@ -12,13 +12,14 @@ use crate::time::ServerTime;
 use crate::watched::{Watched, Watcher};
 use driver::{NO_MEMORY, report};
 use octet_devices::ToWrite;
-use peer_rules::AllowList;
+use peer_rules::{AllowList, Rates};
 use serve_engine::{ServeCounts, ServeEnd, ServeOptions, Server};
 use server_metrics::{ListenerCounts, ListenerRow};
 use server_words::{InheritedKind, ListenerWords, ServeWords};
 use socket_source::{Inherited, Listener, OpenFault as SocketFault, SocketSource, SourceOptions};
 use std::alloc::{AllocError, Global};
 use std::cell::RefCell;
+use std::collections::hash_map::RandomState;
 use std::net::SocketAddr;
 use std::time::Duration;
 use store_engine::shown;
@@ -102,6 +103,22 @@ fn source_options(words: &ServeWords<'_>) -> SourceOptions {
     }
 }
 
+// How fast a peer may send, if that is bounded. The peers choose their addresses, so the keys of the table
+// that has them are random.
+fn rates(teller: Teller<'_, '_>, words: &ServeWords<'_>) -> Result<Option<Rates>, Fault> {
+    let Some(rate) = words.options.rate else {
+        return Ok(None);
+    };
+    let keys = match RandomState::new(teller.rt) {
+        Ok(keys) => keys,
+        Err(error) => return Err(teller.refuse("sockets", error)),
+    };
+    match Rates::new(teller.rt.alloc(), keys, rate) {
+        Ok(rates) => Ok(Some(rates)),
+        Err(_) => Err(teller.out_of_memory()),
+    }
+}
+
 // Opens the sockets.
 fn open_sockets<'a>(
     teller: Teller<'a, '_>,
@@ -114,7 +131,12 @@ fn open_sockets<'a>(
     let Ok(allowed) = allowed(rt.alloc(), words) else {
         return Err(teller.out_of_memory());
     };
-    match SocketSource::open(rt, rt.alloc(), &listeners, allowed, source_options(words)) {
+    let rates = match rates(teller, words) {
+        Ok(rates) => rates,
+        Err(fault) => return Err(fault),
+    };
+    let options = source_options(words);
+    match SocketSource::open(rt, rt.alloc(), &listeners, allowed, rates, options) {
         Ok(source) => Ok(source),
         Err(SocketFault::Listener { listener, cause }) => match words.listeners.get(listener) {
             Some(one) => match place_of(rt.alloc(), one) {
@@ -159,6 +181,7 @@ fn listener_rows(
                 too_long: 0,
                 broken: 0,
                 not_allowed: 0,
+                dropped: 0,
             },
         })?;
     }
@@ -243,6 +266,7 @@ fn serve_options(words: &ServeWords<'_>) -> ServeOptions {
         checkpoint_len: u64::from(words.options.checkpoint_mib) << 20,
         count_millis: COUNT_MILLIS,
         counts_not_allowed: !words.allowed.is_empty(),
+        counts_over_rate: words.options.rate.is_some(),
     }
 }
 

@@ -58,6 +58,7 @@ fn add(row: &mut ListenerCounts, before: &ServeCounts, now: &ServeCounts) {
     row.too_long = grown(row.too_long, before.too_long, now.too_long);
     row.broken = grown(row.broken, before.broken, now.broken);
     row.not_allowed = grown(row.not_allowed, before.not_allowed, now.not_allowed);
+    row.dropped = grown(row.dropped, before.over_rate, now.over_rate);
 }
 
 impl<'t> Watched<'t> {
@@ -111,7 +112,8 @@ impl<'t> Watched<'t> {
             }
             ServerStep::Datagram { listener, .. }
             | ServerStep::TurnedAway { listener, .. }
-            | ServerStep::NotAllowed { listener, .. } => Some(listener),
+            | ServerStep::NotAllowed { listener, .. }
+            | ServerStep::OverRate { listener, .. } => Some(listener),
             ServerStep::Tick => {
                 self.ticked = Instant::now(self.rt).ok();
                 None

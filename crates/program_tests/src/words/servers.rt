@@ -109,6 +109,7 @@ fn serve_has_limits(rt: HostRuntime) -> Result<(), Fail> {
         commit_millis: 1000,
         checkpoint_mib: 64,
         metrics: None,
+        rate: None,
         until_eof: false,
         reading: FrameReading::from(None),
     };
@@ -119,6 +120,7 @@ fn serve_has_limits(rt: HostRuntime) -> Result<(), Fail> {
     options.commit_millis = 0;
     options.checkpoint_mib = 1;
     options.metrics = SocketAddr::from_str("[::1]:9514").ok();
+    options.rate = Some(1_000_000);
     options.until_eof = true;
     options.reading.trim = true;
     options.reading.clock = LegacyClock::new(2001, 0);
@@ -132,6 +134,7 @@ fn serve_has_limits(rt: HostRuntime) -> Result<(), Fail> {
         "--commit=0",
         "--checkpoint=1",
         "--metrics=[::1]:9514",
+        "--rate=1000000",
         "--until-eof",
         "--trim",
         "--legacy=2001",
@@ -150,6 +153,8 @@ fn serve_has_limits(rt: HostRuntime) -> Result<(), Fail> {
         "--checkpoint=2049",
         "--metrics=9514",
         "--metrics=",
+        "--rate=0",
+        "--rate=1000001",
         "--until-eof=true",
         "--dialect=x",
         "--summary",

@@ -45,6 +45,13 @@ returns-in-NotAllowed-clause-served g c = (
   serves_nothing _ _ _ _ c.args.step _ _ _ _ _ (rw c.in-NotAllowed.is refl) (rw c.in-NotAllowed.is refl) c.not_allowed.ensures.same c.not_allowed.ensures.turn,
 )
 
+pub returns-in-OverRate-clause-served : goal.returns-in-OverRate-clause-served
+returns-in-OverRate-clause-served g c = (
+  false,
+  rw c.in-OverRate.is refl,
+  serves_nothing _ _ _ _ c.args.step _ _ _ _ _ (rw c.in-OverRate.is refl) (rw c.in-OverRate.is refl) c.over_rate.ensures.same c.over_rate.ensures.turn,
+)
+
 pub returns-in-InputEnded-clause-served : goal.returns-in-InputEnded-clause-served
 returns-in-InputEnded-clause-served g c = (
   false,
@@ -93,6 +100,9 @@ returns-in-TurnedAway-clause-notes g c k first before at = c.turned_away.ensures
 
 pub returns-in-NotAllowed-clause-notes : goal.returns-in-NotAllowed-clause-notes
 returns-in-NotAllowed-clause-notes g c k first before at = c.not_allowed.ensures.notes
+
+pub returns-in-OverRate-clause-notes : goal.returns-in-OverRate-clause-notes
+returns-in-OverRate-clause-notes g c k first before at = c.over_rate.ensures.notes
 
 pub returns-in-InputEnded-clause-notes : goal.returns-in-InputEnded-clause-notes
 returns-in-InputEnded-clause-notes g c k first before at = turn_none _ _ refl
