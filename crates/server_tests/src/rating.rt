@@ -126,8 +126,10 @@ fn expect_held_back(rt: &HostRuntime, listener: usize, frame: &[u8]) -> Result<(
     let mut came = Vec::new(alloc);
     expect(comes_next(&mut source, &mut came)?, "nothing came")?;
     expect(came.len() == BURST * frame.len(), "not a burst")?;
-    while came.len() < sent.len() {
-        expect(comes_next(&mut source, &mut came)?, "it ended")?;
+    for _piece in 0..sent.len() {
+        if came.len() < sent.len() {
+            expect(comes_next(&mut source, &mut came)?, "it ended")?;
+        }
     }
     expect(came.as_slice() == sent.as_slice(), "something is lost")?;
     let took = Instant::now(rt)?.duration_since(begun);

@@ -113,8 +113,8 @@ pub piece_lawful : (streams now : Slab Connection) (limit limit_now listeners : 
     → IsLawful (stands streams limit listeners networks) new room (Piece conn len)
 piece_lawful streams now limit limit_now listeners networks new peer room conn len same same_limit is of some within =
     let all : new ≡ stands streams limit listeners networks = is
-        ∙ ap (λ (k : Slab Connection). stands k limit_now listeners networks) same
-        ∙ ap (λ (n : ℕ). stands streams n listeners networks) same_limit in
+    ∙ ap (λ (k : Slab Connection). stands k limit_now listeners networks) same
+    ∙ ap (λ (n : ℕ). stands streams n listeners networks) same_limit in
     subst (λ (s : Standing). IsLawful (stands streams limit listeners networks) s room (Piece conn len)) (sym all) (record {
       within = within;
       may = rw (some_open (get streams conn) peer of) (lt-ltb 0 len some);
