@@ -67,3 +67,8 @@ names_without left files names kept of is name = rw is (
   (λ some. let r = left_there (is_among left name) (files name) some in
       passed_has (λ n. not (is_among left n)) names name ((of name).1 r.1) r.0),
 )
+
+-- a file that is left is there
+pub there_of : (left : List (List ℕ)) (files : Files) (name : List ℕ) → IsSome (files_without left files name)
+    → IsSome (files name)
+there_of left files name some = (left_there (is_among left name) (files name) some).1

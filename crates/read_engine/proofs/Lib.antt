@@ -2,6 +2,7 @@ pub mod Readings
 pub mod Tests
 pub mod Formed
 pub mod LeftOut
+pub mod NameIndexes
 pub mod Outside
 pub mod DamagedFiles
 pub mod SameFiles

@@ -9,6 +9,7 @@ ghost use Rattle.read_engine.specs.LeftOut.{files_without};
 ghost use Rattle.read_engine.specs.Partial.{AreDamagedIn, IsOutside, MayBeInside, TellsDamaged};
 
 use crate::folder_behind::FolderBehind;
+use crate::left_out::LeftOut;
 use crate::without_files::WithoutFiles;
 use archive_sets::InRange;
 use disk::FileName;
@@ -55,20 +56,20 @@ fn outside_of(
 fn verify_at<'a, K: FolderBehind, F: Folder>(
     alloc: Global,
     folder: &'a mut F,
-    left_out: &'a [FileName],
+    left_out: &'a LeftOut,
     damaged: &mut Vec<DamagedFile>,
 ) -> (Result<(), ReadFault>, &'a mut F)
     requires name { K.name ≡ folder.ghost_name }
     requires files { K.files ≡ F.files folder.old }
     ensures as_told { F.tells result.1.now
-        → AreAsTold (files_without left_out.now (F.files folder.entry.now)) damaged.old.items
-        → AreAsTold (files_without left_out.now (F.files folder.entry.now)) damaged.new.items }
+        → AreAsTold (files_without left_out.now.names.items (F.files folder.entry.now)) damaged.old.items
+        → AreAsTold (files_without left_out.now.names.items (F.files folder.entry.now)) damaged.new.items }
     ensures listed { OnOk result.0 (F.tells result.1.now → (name : List ℕ)
-        → IsWholeOrListed (files_without left_out.now (F.files folder.entry.now)) damaged.new.items
+        → IsWholeOrListed (files_without left_out.now.names.items (F.files folder.entry.now)) damaged.new.items
         name) }
     ensures cause { IfErr result.0 (IsCause (check_causes (F.has_failed result.1.now)
         (IsCountedFile (F.tells result.1.now)
-        (files_without left_out.now (F.files folder.entry.now))))) }
+        (files_without left_out.now.names.items (F.files folder.entry.now))))) }
     ensures name { result.1.ghost_name ≡ folder.entry.ghost_name }
     ensures same { F.tells result.1.now → F.files result.1.now ≡ F.files folder.entry.now }
     ensures told { F.tells result.1.now → F.tells folder.entry.now }
@@ -82,18 +83,18 @@ fn verify_at<'a, K: FolderBehind, F: Folder>(
 fn verify_without<F: Folder>(
     alloc: Global,
     folder: &mut F,
-    left_out: &[FileName],
+    left_out: &LeftOut,
     damaged: &mut Vec<DamagedFile>,
 ) -> Result<(), ReadFault>
     ensures as_told { F.tells folder.new
-        → AreAsTold (files_without left_out.now (F.files folder.old)) damaged.old.items
-        → AreAsTold (files_without left_out.now (F.files folder.old)) damaged.new.items }
+        → AreAsTold (files_without left_out.now.names.items (F.files folder.old)) damaged.old.items
+        → AreAsTold (files_without left_out.now.names.items (F.files folder.old)) damaged.new.items }
     ensures listed { OnOk result (F.tells folder.new → (name : List ℕ)
-        → IsWholeOrListed (files_without left_out.now (F.files folder.old)) damaged.new.items name) }
+        → IsWholeOrListed (files_without left_out.now.names.items (F.files folder.old)) damaged.new.items name) }
     ensures same { F.tells folder.new → F.files folder.new ≡ F.files folder.old }
     ensures told { F.tells folder.new → F.tells folder.old }
     ensures cause { IfErr result (IsCause (check_causes (F.has_failed folder.new)
-        (IsCountedFile (F.tells folder.new) (files_without left_out.now (F.files folder.old))))) }
+        (IsCountedFile (F.tells folder.new) (files_without left_out.now.names.items (F.files folder.old))))) }
 {
     let (verified, _folder) = verify_at::<Brand, F>(alloc, folder, left_out, damaged);
     verified
@@ -116,7 +117,7 @@ pub(crate) fn damaged_files<F: Folder>(
         (IsCountedFile (F.tells folder.new) (F.files folder.old)))) }
 {
     let names = list(alloc, folder)?;
-    let outside = outside_of(alloc, &names, range)?;
+    let outside = LeftOut::new(alloc, outside_of(alloc, &names, range)?)?;
     let mut damaged = Vec::new(alloc);
     verify_without(alloc, folder, &outside, &mut damaged)?;
     Ok(damaged)

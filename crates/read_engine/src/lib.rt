@@ -8,6 +8,7 @@
 mod choosing;
 mod damaged;
 mod folder_behind;
+mod left_out;
 mod options;
 mod outcome;
 mod partial;

@@ -11,6 +11,7 @@ ghost use Rattle.read_engine.specs.Partial.{AreDamagedIn, LeavesOut, RanPartial,
 
 use crate::damaged::{damaged_files, report_damaged_files};
 use crate::folder_behind::FolderBehind;
+use crate::left_out::LeftOut;
 use crate::options::ReadOptions;
 use crate::read::read_all;
 use crate::without_files::WithoutFiles;
@@ -39,7 +40,7 @@ fn names_of(alloc: Global, damaged: &[DamagedFile]) -> Result<Vec<FileName>, All
 fn read_at<'a, K: FolderBehind, F: Folder, W: Output, N: Output>(
     alloc: Global,
     folder: &'a mut F,
-    left_out: &'a [FileName],
+    left_out: &'a LeftOut,
     options: &ReadOptions<'_>,
     range: InRange,
     output: &mut W,
@@ -48,7 +49,7 @@ fn read_at<'a, K: FolderBehind, F: Folder, W: Output, N: Output>(
     requires name { K.name ≡ folder.ghost_name }
     requires files { K.files ≡ F.files folder.old }
     ensures plain { IsPlain options.now → RanRead (F.tells result.1.now) (F.has_failed result.1.now)
-        (files_without left_out.now (F.files folder.entry.now)) range (W.state output.old)
+        (files_without left_out.now.names.items (F.files folder.entry.now)) range (W.state output.old)
         (W.state output.new) (N.state diagnostics.old) (N.state diagnostics.new) result.0 }
     ensures name { result.1.ghost_name ≡ folder.entry.ghost_name }
     ensures same { F.tells result.1.now → F.files result.1.now ≡ F.files folder.entry.now }
@@ -63,14 +64,14 @@ fn read_at<'a, K: FolderBehind, F: Folder, W: Output, N: Output>(
 fn read_without<F: Folder, W: Output, N: Output>(
     alloc: Global,
     folder: &mut F,
-    left_out: &[FileName],
+    left_out: &LeftOut,
     options: &ReadOptions<'_>,
     range: InRange,
     output: &mut W,
     diagnostics: &mut N,
 ) -> u8
     ensures plain { IsPlain options.now → RanRead (F.tells folder.new) (F.has_failed folder.new)
-        (files_without left_out.now (F.files folder.old)) range (W.state output.old)
+        (files_without left_out.now.names.items (F.files folder.old)) range (W.state output.old)
         (W.state output.new) (N.state diagnostics.old) (N.state diagnostics.new) result }
     ensures same { F.tells folder.new → F.files folder.new ≡ F.files folder.old }
     ensures told { F.tells folder.new → F.tells folder.old }
@@ -99,13 +100,13 @@ fn read_others<F: Folder, W: Output, N: Output>(
     alloc: Global,
     folder: &mut F,
     damaged: &[DamagedFile],
-    left_out: &[FileName],
+    left_out: &LeftOut,
     options: &ReadOptions<'_>,
     range: InRange,
     output: &mut W,
     diagnostics: &mut N,
 ) -> u8
-    requires names { left_out.now ≡ names_in damaged.now }
+    requires names { left_out.now.names.items ≡ names_in damaged.now }
     ensures same { F.tells folder.new → F.files folder.new ≡ F.files folder.old }
     ensures told { F.tells folder.new → F.tells folder.old }
     ensures left_out { (F.tells folder.new → AreDamagedIn (F.files folder.old) range damaged.now)
@@ -126,18 +127,18 @@ fn damaged_and_names<F: Folder>(
     alloc: Global,
     folder: &mut F,
     range: &InRange,
-) -> Result<(Vec<DamagedFile>, Vec<FileName>), ReadFault>
+) -> Result<(Vec<DamagedFile>, LeftOut), ReadFault>
     ensures found { F.tells folder.new → IfOk result (λ r.
         AreDamagedIn (F.files folder.old) range.now r.0.items) }
-    ensures names { IfOk result (λ r. r.1.items ≡ names_in r.0.items) }
+    ensures names { IfOk result (λ r. r.1.names.items ≡ names_in r.0.items) }
     ensures same { F.tells folder.new → F.files folder.new ≡ F.files folder.old }
     ensures told { F.tells folder.new → F.tells folder.old }
     ensures cause { IfErr result (IsCause (check_causes (F.has_failed folder.new)
         (IsCountedFile (F.tells folder.new) (F.files folder.old)))) }
 {
     let damaged = damaged_files(alloc, folder, range)?;
-    let names = names_of(alloc, &damaged)?;
-    Ok((damaged, names))
+    let left_out = LeftOut::new(alloc, names_of(alloc, &damaged)?)?;
+    Ok((damaged, left_out))
 }
 
 /// Tells the damaged files of a store, of those that are read for a range of time, and writes what the others hold as
@@ -158,12 +159,12 @@ pub(crate) fn read_partial<F: Folder, W: Output, N: Output>(
         (N.state diagnostics.old) (N.state diagnostics.new) result }
 {
     match damaged_and_names(alloc, folder, &range) {
-        Ok((damaged, names)) => {
+        Ok((damaged, left_out)) => {
             read_others(
                 alloc,
                 folder,
                 &damaged,
-                &names,
+                &left_out,
                 options,
                 range,
                 output,

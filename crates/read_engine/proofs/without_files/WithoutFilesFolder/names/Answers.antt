@@ -7,7 +7,7 @@ use Rattle.read_engine.proofs.without_files.WithoutFilesFolder.names.Goals as go
 
 pub returns-clause-names : goal.returns-clause-names
 returns-clause-names g c = λ t.
-    names_without c.args.self.now.left_out.now (g.F.Folder.files c.args.self.now.folder.now) c.in_ok-names.names.items
+    names_without c.args.self.now.left_out.now.names.items (g.F.Folder.files c.args.self.now.folder.now) c.in_ok-names.names.items
     c.retain.new.self.items (c.in_ok-names.ensures.names t)
-    (filter_same _ (λ n. not (is_among c.args.self.now.left_out.now n)) _ (λ x b f' k. search rules) _ _
+    (filter_same _ (λ n. not (is_among c.args.self.now.left_out.now.names.items n)) _ (λ x b f' k. search rules) _ _
     c.retain.ensures.filtered)
