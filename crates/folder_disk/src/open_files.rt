@@ -12,8 +12,9 @@ use std::fs::OpenFile;
 use std::rt::Files;
 use std::{fs, io};
 
-/// How many files are open at once, unless more have octets that have not been synced.
-const OPEN_MAX: usize = 512;
+/// How many files are open at once, unless more have octets that have not been synced. A server leaves 32 descriptors to
+/// its files, however many connections it has.
+const OPEN_MAX: usize = 16;
 
 /// A folder's path, and those of its files that are open.
 #[derive(Drop)]

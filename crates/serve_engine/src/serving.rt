@@ -97,7 +97,7 @@ impl<S: Store + Drop, K: Keeping<S> + Drop, N: Output + Drop, R: Output + Drop> 
     }
 
     /// A turn: a step of the source; or if the disk is full, another try after a while in which
-    /// nothing is read; or if memory is short, a commit before more is read. The slice should have room
+    /// nothing is read; or if memory is short, a commit before more is read, and a checkpoint if that is due. The slice should have room
     /// for `PIECE_MAX` octets.
     ///
     /// What came is committed at each tick, and once the source has finished or failed, unless the
@@ -129,7 +129,7 @@ impl<S: Store + Drop, K: Keeping<S> + Drop, N: Output + Drop, R: Output + Drop> 
             return self.try_again(alloc);
         }
         if self.intake.is_short() {
-            return self.commit(alloc);
+            return self.commit_early(alloc, options.checkpoint_len);
         }
         let step = source.next(buf);
         self.step(alloc, source, pause, step, buf, options)

@@ -411,6 +411,24 @@ impl<S: Store + Drop, K: Keeping<S> + Drop, N: Output + Drop, R: Output + Drop> 
         }
     }
 
+    // Memory is short: all that came is committed before the next tick, and a checkpoint made that is due.
+    pub(crate) fn commit_early(&mut self, alloc: Global, checkpoint_len: u64) -> Turn
+        ensures served { CommitsAll S.entries K.stands self.old.intake self.new.intake self.new.full result }
+        ensures settled { NoneWaits self.old.intake.collector → NoneWaits self.new.intake.collector }
+        ensures manner { manner_of self.new.intake.collector ≡ manner_of self.old.intake.collector }
+        ensures turn { IsCommitTurn result }
+        ensures kept { KeepsSilent true (kept_in R.state self.old.report) (kept_in R.state self.new.report) }
+        ensures notes { TellsFew 3 (N.state self.old.report.notes) (N.state self.new.report.notes) }
+        ensures pace { self.new.report.pace ≡ self.old.report.pace }
+        ensures syncs { MakesAtMost (turn_syncs K.most_syncs (waiting_in S.entries self.old.intake))
+            (K.syncs self.old.intake.keeper) (K.syncs self.new.intake.keeper) }
+    {
+        match self.commit(alloc) {
+            Turn::On => self.finish_tick(alloc, checkpoint_len),
+            end => end,
+        }
+    }
+
     // Ends so, unless what came waits for a disk with room or for memory: then it is tried again.
     fn end_with(&mut self, end: ServeEnd) -> Turn
         ensures same { self.new.intake ≡ self.old.intake }

@@ -194,7 +194,7 @@ impl<D: Disk + Drop> DiskKeeper<D> {
                 &mut taken,
             ) {
                 Ok(()) => return Ok(taken),
-                Err(KeepFault::Memory) if self.store.len() > 0 || !fresh.is_short() => {
+                Err(KeepFault::Memory) if self.store.len() > 0 || !fresh.has_given_up() => {
                     fresh.give_up();
                     self.free_memory(alloc)?;
                 }
@@ -226,7 +226,7 @@ impl<D: Disk + Drop> Keeping<SparedSet> for DiskKeeper<D> {
     }
 
     fn take(&mut self, alloc: Global, fresh: &mut SparedSet) -> Result<Taken, KeepFault> {
-        self.relieve(alloc, fresh.is_short())?;
+        self.relieve(alloc, fresh.has_given_up())?;
         let taken = self.add_set(alloc, fresh)?;
         fresh.clear(alloc);
         Ok(taken)

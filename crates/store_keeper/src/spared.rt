@@ -18,14 +18,20 @@ const PARTS: usize = 4;
 // How many octets each has.
 const PART: usize = 1 << 20;
 
+// From how many octets of memory on a set is to be handed over: so what senders bring between two commits takes no more
+// than this and a turn's share, however fast they are.
+const ROOM_MAX: usize = 32 << 20;
+
 /// A set of records, and memory that is held back for it, as far as there was some. Where a record has
 /// no room, what is held back is given up, and it is tried once more. Memory is short then, until the
-/// set is emptied.
+/// set is emptied. It is said to be short, too, where the set takes 32 MiB.
 #[derive(Drop)]
 pub struct SparedSet {
     pages: PagedArchive,
     spare: Vec<Vec<u8>>,
     short: bool,
+    // whether what was held back is given up
+    given_up: bool,
 }
 
 // Holds back what is missing, as far as there is some.
@@ -52,6 +58,7 @@ impl SparedSet {
             pages: PagedArchive::new(alloc),
             spare,
             short: false,
+            given_up: false,
         }
     }
 
@@ -69,6 +76,20 @@ impl SparedSet {
         self.short
     }
 
+    /// Whether there was no room for a record.
+    pub(crate) fn has_given_up(&self) -> bool {
+        self.given_up
+    }
+
+    // Has the set handed over where it takes much memory.
+    fn note_room(&mut self)
+        ensures pages { pages_of self.new ≡ pages_of self.old }
+    {
+        if self.pages.room() >= ROOM_MAX {
+            self.short = true;
+        }
+    }
+
     /// Gives up what is held back.
     pub(crate) fn give_up(&mut self)
         ensures pages { pages_of self.new ≡ pages_of self.old }
@@ -76,6 +97,7 @@ impl SparedSet {
     {
         self.spare.clear();
         self.short = true;
+        self.given_up = true;
     }
 
     /// Empties the set, and holds memory back again.
@@ -86,6 +108,7 @@ impl SparedSet {
         self.pages = PagedArchive::new(alloc);
         hold_back(alloc, &mut self.spare);
         self.short = false;
+        self.given_up = false;
     }
 }
 
@@ -95,8 +118,9 @@ impl Store for SparedSet {
     ghost archive = { λ s. s.pages.paged.archive };
 
     fn add(&mut self, alloc: Global, record: &Record) -> Result<Added, AddFault> {
+        self.note_room();
         match self.pages.add(alloc, record) {
-            Err(AddFault::Memory) if !self.short => {
+            Err(AddFault::Memory) if !self.given_up => {
                 self.give_up();
                 self.pages.add(alloc, record)
             }
@@ -105,8 +129,9 @@ impl Store for SparedSet {
     }
 
     fn add_view(&mut self, alloc: Global, view: &RecordView<'_>) -> Result<Added, AddFault> {
+        self.note_room();
         match self.pages.add_view(alloc, view) {
-            Err(AddFault::Memory) if !self.short => {
+            Err(AddFault::Memory) if !self.given_up => {
                 self.give_up();
                 self.pages.add_view(alloc, view)
             }

@@ -11,7 +11,7 @@ returns-then-self-clause-served g c =
 pub returns-then-is_short-clause-served : goal.returns-then-is_short-clause-served
 returns-then-is_short-clause-served g c =
     tried _ _ _ _ _ (as_short _ _ true c.if-self.false (sym c.is_short.ensures ∙ c.if-is_short.true)) refl
-    c.commit.ensures.served c.commit.ensures.settled c.commit.ensures.manner c.commit.ensures.turn c.commit.ensures.kept
+    c.commit_early.ensures.served c.commit_early.ensures.settled c.commit_early.ensures.manner c.commit_early.ensures.turn c.commit_early.ensures.kept
 
 pub returns-clause-served : goal.returns-clause-served
 returns-clause-served g c =
@@ -30,8 +30,8 @@ returns-then-self-clause-notes g c k first before at = turn_on 1 0 _ _ (omega ar
     (inl c.try_again.ensures.pace)
 
 pub returns-then-is_short-clause-notes : goal.returns-then-is_short-clause-notes
-returns-then-is_short-clause-notes g c k first before at = turn_on 1 0 _ _ (omega arith) c.commit.ensures.notes
-    (inl c.commit.ensures.pace)
+returns-then-is_short-clause-notes g c k first before at = turn_on 3 0 _ _ (omega arith) c.commit_early.ensures.notes
+    (inl c.commit_early.ensures.pace)
 
 pub returns-clause-notes : goal.returns-clause-notes
 returns-clause-notes g c k first before at = c.step.ensures.notes k first before at
