@@ -14,3 +14,10 @@ returns-in-Err-Memory-clause-ok c =
     → IsViewOf b (view_parts c.args.view.now) → (r : Parts ℤ) × WellFormed r b
     × AddsRecord r es (entries_in c.add_view-in-Err-Memory.new.self) added))
     (ap entries_in c.give_up.ensures.pages ∙ c.in-Err-Memory.ensures.err ∙ ap entries_in c.note_room.ensures.pages) c.add_view-in-Err-Memory.ensures.ok
+
+pub returns-in_default-3-clause-ok : goal.returns-in_default-3-clause-ok
+returns-in_default-3-clause-ok c =
+    subst (λ (es : List Entry). IfOk c.add_view.result (λ added. (b : List ℕ)
+    → IsViewOf b (view_parts c.args.view.now) → (r : Parts ℤ) × WellFormed r b
+    × AddsRecord r es (entries_in c.add_view.new.self) added))
+    (ap entries_in c.note_room.ensures.pages) c.add_view.ensures.ok
