@@ -131,7 +131,7 @@ def seen(path):
 # which commands use which files
 COMMANDS = "serve", "read", "verify", "compact", "add", "expire"
 USED = {JOURNAL: ["serve", "read", "verify"], SEGMENT: ["read", "verify", "compact"], "lock": ["serve"],
-        "lock.compact": ["compact", "expire"], "compact.archive": ["compact"], "lock.add": ["add"], "add.archive": ["add"]}
+        "new.journal": ["serve"], "new.archive": ["serve"], "lock.compact": ["compact", "expire"], "compact.archive": ["compact"], "lock.add": ["add"], "add.archive": ["add"]}
 
 
 def with_intruder(folders, command, store, name, kind, make, words):

@@ -5,12 +5,15 @@ use crate::refused::{Behind, RefusedFile};
 use crate::telling::Teller;
 use disk::DiskFault;
 use durable_store::{OpenFault, SetAside, check_journals};
-use folder_disk::{FolderDisk, FolderLock, LockFault, LockFile};
+use folder_disk::{Access, FolderDisk, FolderLock, LockFault, LockFile, open_regular};
 use journal::JournalFault;
 use ledger_disk::{LedgerDisk, Purpose};
 use record_store::StoreFault;
 use std::io;
 use store_keeper::{DiskKeeper, SoundDisk};
+
+// What a journal and a segment are called until all of them is on the disk.
+const DRAFTS: [&str; 2] = ["new.journal", "new.archive"];
 
 /// The exit status of a server that does not begin.
 pub type Fault = u8;
@@ -106,6 +109,22 @@ fn tell_aside(teller: Teller<'_, '_>, aside: SetAside) -> Result<(), Fault> {
     }
 }
 
+// Refuses a folder in which something has the name of a draft that cannot be written: no journal and no segment could be made.
+fn check_drafts(teller: Teller<'_, '_>, dir: &str) -> Result<(), Fault> {
+    for name in DRAFTS {
+        let Ok(path) = format!(in teller.rt.alloc(); "{dir}/{name}") else {
+            return Err(teller.out_of_memory());
+        };
+        match open_regular(teller.rt, path.as_str(), Access::Write) {
+            Err(error) if error.kind() != io::ErrorKind::NotFound => {
+                return Err(refuse_file(teller, dir, name, error));
+            }
+            _ => {}
+        }
+    }
+    Ok(())
+}
+
 // Opens the store on a disk.
 fn open_keeper<'d>(
     teller: Teller<'d, 'd>,
@@ -140,6 +159,7 @@ pub fn open_store<'d>(teller: Teller<'d, 'd>, dir: &'d str) -> Result<Keeper<'d>
         }
         Err(fault) => return Err(teller.refuse(dir, fault)),
     };
+    check_drafts(teller, dir)?;
     let mut lock = match FolderLock::take(rt, dir, LockFile::Writing) {
         Ok(lock) => lock,
         Err(LockFault::Held) => return Err(teller.refuse(dir, "another server has the store")),

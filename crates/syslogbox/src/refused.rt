@@ -4,8 +4,9 @@ use crate::entries::{Entries, LEN_MAX};
 use folder_disk::{Access, open_or_create};
 use std::alloc::AllocError;
 use std::fs::{self, File};
-use std::io::{self, Read, Seek, SeekFrom, Write};
+use std::io::{self, ErrorKind, Read, Seek, SeekFrom, Write};
 use std::mem::replace;
+use std::os::unix::fs::MetadataExt;
 use std::time::{Duration, Instant};
 
 // The most octets of the file: at the first entry behind them it gets another name, and a new one begins.
@@ -57,6 +58,17 @@ struct Lost {
 // Opens a file, or makes it where there is none.
 fn open(rt: &HostRuntime, path: &str) -> io::Result<File> {
     Ok(open_or_create(rt, path, Access::Append)?.file)
+}
+
+// Whether a file has this name, which somebody may have given to another one, or removed.
+fn has_name(rt: &HostRuntime, file: &File, path: &str) -> io::Result<bool> {
+    let named = match fs::symlink_metadata(rt, path) {
+        Ok(named) => named,
+        Err(error) if error.kind() == ErrorKind::NotFound => return Ok(false),
+        Err(error) => return Err(error),
+    };
+    let found = file.metadata()?;
+    Ok(named.dev() == found.dev() && named.ino() == found.ino())
 }
 
 // The entries of a file, as far as they can be read.
@@ -177,6 +189,16 @@ impl<'a> RefusedFile<'a> {
         Ok(())
     }
 
+    // Goes on with the file that has the name now, or a new one, where somebody has moved or removed the one before.
+    fn follow_name(&mut self) -> io::Result<()> {
+        if has_name(self.rt, &self.file, self.names.path.as_str())? {
+            return Ok(());
+        }
+        self.file = open(self.rt, self.names.path.as_str())?;
+        self.torn = None;
+        Ok(())
+    }
+
     // Cuts off what a write that failed has left, and returns the length.
     fn mend(&mut self) -> io::Result<u64> {
         let len = self.file.metadata()?.len();
@@ -205,6 +227,7 @@ impl<'a> RefusedFile<'a> {
 
     // Writes whole entries, or none of them.
     fn try_append(&mut self, entries: &[u8]) -> io::Result<()> {
+        self.follow_name()?;
         let mut begun = self.mend()?;
         if begun >= REFUSED_MAX {
             match self.turn() {
