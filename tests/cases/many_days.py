@@ -162,6 +162,27 @@ def has_draft(store):
     return "new.archive" in os.listdir(store)
 
 
+def few_descriptors(runs):
+    """Checkpoints of many segments go on where connections have taken all descriptors that are not left to files."""
+    front = ["sh", "-c", 'ulimit -n 256; exec "$@"', "sh"]
+    with runs.until_eof(*any_port("counted"), *SOON, "--checkpoint", 1, "--per-peer", 1_024, store=runs.path / "few", front=front) as server:
+        sent, sender = [], server.open("counted")
+        others = [server.open("counted") for _ in range(300)]
+        for _ in range(30):
+            some = [of_day(len(sent) + number, 60_000) for number in range(25)]
+            sent += some
+            try:
+                sender.sendall(counted(some))
+            except OSError:
+                break  # the server has ended
+        sender.close()
+        told = [line for line in server.lines() if b"too many connections" not in line and b"closed" not in line]
+        runs.holds("checkpoints beside connections that have the descriptors", server, *sent)
+        runs.results.check("the server goes on without descriptors", server.process.poll() is None, str(told[-3:]))
+        for one in others:
+            one.close()
+
+
 def many_days(program, results, days=DAYS):
     with tempfile.TemporaryDirectory() as path:
         runs = Runs(program, results, path)
@@ -170,3 +191,4 @@ def many_days(program, results, days=DAYS):
         undated(runs)
         few_syncs(runs)
         without_room(runs)
+        few_descriptors(runs)

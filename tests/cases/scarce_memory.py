@@ -19,6 +19,7 @@ MOST = HALF + b"x" * 190_000
 GOOD = b"<14>1 - h good - - - beside them"
 LONG = b"<14>1 - h long - - - " + b"x" * 200_000
 PERIOD, CHECKPOINT = 200, 64  # MiB that come within a commit, and the default
+EARLY = 32  # MiB that wait for a commit at most
 BOUND = re.compile(r"^    (\d+) \+ ([\d.]+) \* CHECKPOINT \+ ([\d.]+) \* PERIOD \+ [\d.]+ \* CONNECTIONS$", re.MULTILINE)
 
 
@@ -95,16 +96,34 @@ def most_memory(server):
     return int(re.search(r"VmHWM:\s*(\d+)", status)[1]) / 1_024
 
 
-def within_the_bound(runs):
-    """What comes within one commit takes no more memory than the operator is told; one connection is as good as none."""
+def bound(period):
+    """The most MiB that the operator is told, beside connections, if so many MiB come within one commit."""
     fixed, of_checkpoint, of_period = map(float, BOUND.search((ROOT / "docs/OPERATING.md").read_text()).groups())
+    return fixed + of_checkpoint * CHECKPOINT + of_period * min(period, EARLY)
+
+
+def within_the_bound(runs):
+    """What comes within one commit takes no more memory than the operator is told, however much it is; one connection is as
+    good as none."""
     frames = [counted([b"<14>1 2026-11-29T10:00:00.%06dZ h good - - - %s" % (n, b"x" * 170)]) for n in range(1_000_000)]
     octets = b"".join(frames[:PERIOD * MEBIBYTE // len(frames[0])])
     with runs.until_eof(*any_port("counted"), "--commit", 6_000) as server:
         server.send("counted", octets)
         written = until(lambda: sum(path.stat().st_size for path in server.store.iterdir()) > len(octets) * 0.9)
-        taken, most = most_memory(server), fixed + of_checkpoint * CHECKPOINT + of_period * PERIOD
+        taken, most = most_memory(server), bound(PERIOD)
         runs.results.check("memory of what comes within a commit", written and taken <= most, f"{taken:.0f} MiB of {most:.0f}")
+
+
+def short_packets(runs):
+    """So do legacy packets of a few octets, each of which is a record."""
+    letters = bytes(octet for octet in range(33, 127) if octet != ord("<"))
+    octets = b"".join(bytes([one, two, three]) + b"\n" for one in letters for two in letters for three in letters) * 4
+    octets += b"".join(bytes([one, two, three, four]) + b"\n" for one in letters[:50] for two in letters for three in letters for four in letters[:8])
+    with runs.until_eof(*any_port("lf"), "--commit", 6_000, "--legacy", 2026) as server:
+        server.send("lf", octets)
+        size = len(octets) / MEBIBYTE
+        taken, most = most_memory(server), bound(EARLY)
+        runs.results.check("memory of short legacy packets", taken <= most, f"{taken:.0f} MiB of {most:.0f}, for {size:.0f} MiB")
 
 
 def try_all(program, results):
@@ -134,3 +153,5 @@ def scarce_memory(program, results):
     with_descriptors(lambda: try_all(program, results))
     with tempfile.TemporaryDirectory() as path:
         within_the_bound(Runs(program, results, path))
+    with tempfile.TemporaryDirectory() as path:
+        short_packets(Runs(program, results, path))
