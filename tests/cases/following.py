@@ -179,6 +179,97 @@ def damaged(program, results, path):
     results.check("it is named", b"journal.8 was removed before it was read" in notes, repr(notes))
 
 
+def replaced(program, results, path):
+    """Where a journal is set aside or another one comes in its place, that is told, and all that is there then is written."""
+    first, second, third = some("first", 4), some("second", 3), some("third", 6)
+
+    def trial(name, replace):
+        store = Path(path) / name.replace(" ", "-")
+        store.mkdir(mode=0o700)
+        journal = Journal(store, 7)
+        seen = Follow(program, store, "--from-start", "--until-eof")
+        text = journal.commit(first)
+        results.check(f"{name}: before it", seen.writes(text))
+        text += replace(store, journal)
+        results.check(f"{name}: what is there then", seen.writes(text), repr(seen.octets)[:300])
+        status, notes = seen.eof()
+        results.check(f"{name}: nothing else", seen.octets == text, repr(seen.octets)[:300])
+        results.check(f"{name}: status 0", status == 0, f"{status} {notes}")
+        told = b"journal.7 was replaced: all journals are read from their start\n"
+        results.check(f"{name}: told once", notes == told, repr(notes))
+
+    def aside(store, journal):
+        journal.path.rename(store / "damaged.whole.journal.7")
+        return Journal(store, 1).commit(second) + Journal(store, 2).commit(third)
+
+    def aside_with_a_batch(store, journal):
+        text = journal.commit(third)
+        journal.path.rename(store / "damaged.whole.journal.7")
+        return text + Journal(store, 1).commit(second)
+
+    def another(records):
+        def replace(store, journal):
+            os.rename(store, f"{store}.old")
+            store.mkdir(mode=0o700)
+            return Journal(store, 7).commit(records)
+        return replace
+
+    def cut(store, journal):
+        os.truncate(journal.path, 1)
+        until(lambda: False, QUIET)  # it is seen before it grows again
+        return journal.commit(second)
+
+    trial("set aside", aside)
+    trial("set aside behind a batch", aside_with_a_batch)
+    trial("another that is shorter", another(second))
+    trial("another that is as long", another(first))
+    trial("another that is longer", another(third))
+    trial("cut", cut)
+
+
+def restored(program, results, path):
+    """Beside a server: a journal is set aside, and a copy of the store is put in its place, as `docs/OPERATING.md` says."""
+    words = ["--lf", "127.0.0.1:0", "--commit", "20"]
+
+    def serve(store, name, count):
+        with Server(program, store, *words) as server:
+            before = len(server.held())
+            server.send("lf", b"".join(b"<14>1 2026-11-25T10:00:00Z %b a - - - %d\n" % (name, n) for n in range(count)))
+            until(lambda: len(server.held()) >= before + count, 20)
+            return server.held()
+
+    def trial(name, repair):
+        store = Path(path) / name
+        held = serve(store, b"before", 20)
+        copy = Path(path) / f"copy-of-{name}"
+        status = subprocess.run([program.path, "backup", str(store), str(copy)], capture_output=True).returncode
+        results.check(f"{name}: a copy", status == 0, str(status))
+        seen = Follow(program, store, "--until-eof")
+        results.check(f"{name}: what it holds is not written", seen.stays(b""))
+        serve(store, b"between", 40)
+        until(lambda: len(counted_frames(seen.octets)[0]) >= 40, 20)
+        repair(store, copy)
+        held = {one for one in serve(store, b"after", 30) if b" after " in one}
+        until(lambda: held <= set(counted_frames(seen.octets)[0]), 20)
+        status, notes = seen.eof()
+        results.check(f"{name}: status 0", status == 0, f"{status} {notes}")
+        results.check(f"{name}: told", b" was replaced: " in notes, repr(notes))
+        frames = set(counted_frames(seen.octets)[0])
+        results.check(f"{name}: all that is committed behind it is written", len(held) == 30 and held <= frames,
+                      f"{len(held - frames)} of {len(held)} lack")
+
+    def aside(store, copy):
+        for journal in list(store.glob("journal.*")):
+            journal.rename(store / f"damaged.whole.{journal.name}")
+
+    def restore(store, copy):
+        store.rename(f"{store}.old")
+        copy.rename(store)
+
+    trial("aside", aside)
+    trial("restored", restore)
+
+
 def without_store(program, results, path):
     """It waits for a folder and for a journal; of a folder that cannot be read it tells why."""
     store = Path(path) / "later"
@@ -221,6 +312,6 @@ def beside_a_server(program, results, path):
 
 
 def following(program, results):
-    for part in (step_by_step, under_conditions, damaged, without_store, beside_a_server):
+    for part in (step_by_step, under_conditions, damaged, replaced, restored, without_store, beside_a_server):
         with tempfile.TemporaryDirectory() as path:
             part(program, results, path)

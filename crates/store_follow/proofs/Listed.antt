@@ -1,5 +1,5 @@
 -- Numbers in their order, and the journals that have them.
-use Rattle.std.proofs.Common.{◌≡◌, ◌≢◌, ℕ, ◌-◌, ◌<◌, ◌≤◌, ◌^◌, List, [], ◌∷◌, length, get_or}
+use Rattle.std.proofs.Common.{◌≡◌, ◌≢◌, ◌⊎◌, ℕ, ◌-◌, ◌<◌, ◌≤◌, ◌^◌, List, [], ◌∷◌, length, get_or}
 use Rattle.std.proofs.Common.{Option, None, Some, refl, sym, ap, subst, ◌∙◌, inl, inr, arith}
 use Rattle.std.specs.Prelude.{Contains, IfSome, slice_get}
 use Rattle.std.proofs.lemmas.Option.{get_or_from_slice_get}
@@ -8,7 +8,7 @@ use Rattle.std.proofs.lemmas.Bool.{cases_lt}
 use Rattle.std.proofs.lemmas.List.{get_or_default}
 use Rattle.std.proofs.lemmas.Map.Keys.{below_from_sorted, sorted_from_strictly_increasing}
 use Rattle.disk.specs.States.{State}
-use Rattle.record_store.specs.Shown.{AreShown, NoneShownAbove, journal_shown}
+use Rattle.record_store.specs.Shown.{AreShown, NoneShownAbove, ShowsNoJournal, journal_shown}
 use Rattle.store_follow.specs.Looks.{BeginsAt, IsBeginning, NoneShownBelow}
 use Rattle.store_follow.specs.declared.place.Place.{Place}
 
@@ -36,7 +36,7 @@ pub first_least : (x : ℕ) (xs : List ℕ) (n : ℕ) → IsStrictlyIncreasing (
 first_least x xs n up (k, below, here) =
     omega (arith, ascend (x ∷ xs) 0 k up (omega arith) below, get_or_default (x ∷ xs) k n 0 below, here)
 
-shown_or_not : (state : State) (n : ℕ) → ((journal_shown state n ≢ None) → ⊥) → journal_shown state n ≡ None
+pub shown_or_not : (state : State) (n : ℕ) → ((journal_shown state n ≢ None) → ⊥) → journal_shown state n ≡ None
 shown_or_not state n not = at (journal_shown state n) not
   where
     at : (found : Option (List ℕ)) → ((found ≢ None) → ⊥) → found ≡ None
@@ -78,3 +78,17 @@ pub last_of : (xs : List ℕ) (found : Option ℕ) → found ≡ slice_get xs (l
     → IfSome found (λ n. IsStrictlyIncreasing xs → (m : ℕ) → Contains xs m → m ≤ n)
 last_of xs None is = tt
 last_of xs (Some n) is = λ up m has. last_greatest xs n m (get_or_from_slice_get xs (length xs - 1) n 0 (sym is)) up has
+
+pub not_in_none : (n : ℕ) → Contains [] n → ⊥
+not_in_none n (k, below, same) = omega (arith, below)
+
+-- numbers among which no later one is, and not this one though all are not below it
+pub none_shown : (state : State) (numbers : List ℕ) (number : ℕ) → AreShown state (2 ^ 64 - 1) numbers
+    → ((n : ℕ) → Contains numbers n → n ≤ number) → journal_shown state number ≡ None
+    → (numbers ≡ []) ⊎ ((m : ℕ) × Contains numbers m × (number ≤ m)) → ShowsNoJournal state
+none_shown state numbers number are none absent (inl empty) n small =
+    shown_or_not state n (λ shown. not_in_none n (subst (λ (l : List ℕ). Contains l n) empty
+    ((are.are n).1 (omega (arith, small), shown))))
+none_shown state numbers number are none absent (inr (m, has, above)) n small =
+    let is : number ≡ m = omega (arith, above, none m has) in
+    absurd (listed_shown state numbers are m has (subst (λ (k : ℕ). journal_shown state k ≡ None) is absent))

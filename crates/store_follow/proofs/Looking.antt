@@ -1,27 +1,29 @@
 -- What a look comes to.
-use Rattle.std.proofs.Common.{◌≡◌, ◌⊎◌, ℕ, ◌+◌, ◌-◌, ◌<◌, ◌≤◌, ◌^◌, List, [], ◌∷◌, drop, refl, sym, ap, subst, ◌∙◌}
+use Rattle.std.proofs.Common.{◌≡◌, ◌≢◌, ◌⊎◌, ℕ, ◌+◌, ◌-◌, ◌<◌, ◌≤◌, ◌^◌, List, [], ◌∷◌, drop, length, refl, sym, ap, subst, ◌∙◌}
 use Rattle.std.proofs.Common.{Option, None, Some, Bool, true, false, inl, inr, arith}
 use Rattle.std.specs.Prelude.{Contains, Err, IfErr, IfNone, IfOk, IfSome, IsErrOf, IsNone, IsSome, Ok, Result}
 use Rattle.disk.specs.Calls.{IsUnchanged}
 use Rattle.disk.specs.Files.{File}
 use Rattle.disk.specs.Memory.{shown_now}
 use Rattle.disk.specs.States.{Entry, State}
+use Rattle.disk.specs.declared.fault.DiskFault.{DiskFault}
 use Rattle.disk.specs.declared.fault.DiskFault.TheVariants.{Missing, Exists, Full, Failed, Memory as Disk_memory}
 use Rattle.journal.specs.Batches.{IsClosed}
 use Rattle.journal.specs.Journals.{EndsAt, IsSound}
 use Rattle.record_store.specs.Names.{journal_name}
 use Rattle.record_store.specs.Shown.{AreShown, NoneShownAbove, journal_shown}
 use Rattle.store_follow.specs.Batches.{Stops, Writes, WritesPart}
-use Rattle.store_follow.specs.Looks.{BeginsAt, IsBehindNewest, IsListingFault, ComesTo, Fails, FoundGap, GoesOn, IsAtPlace, IsBeginning, IsTurn}
+use Rattle.store_follow.specs.Looks.{BeginsAt, IsBehindNewest, IsListingFault, ComesTo, Fails, FoundGap, FoundReplaced, GoesOn, IsAtPlace, IsBeginning, IsToldAs, IsTurn}
 use Rattle.store_follow.specs.Looks.{LookedAt, LookedInVain, Looks, ShowsLater, Stays, WroteBefore, WrotePart}
 use Rattle.store_follow.specs.declared.fault.BatchFault.{BatchFault}
 use Rattle.store_follow.specs.declared.fault.BatchFault.TheVariants.{Disk, Damaged as No_batch, Write as Not_written}
 use Rattle.store_follow.specs.declared.fault.FollowFault.{FollowFault}
-use Rattle.store_follow.specs.declared.fault.FollowFault.TheVariants.{Names, Read, Damaged, Gap, Write, Memory}
+use Rattle.store_follow.specs.declared.fault.FollowFault.TheVariants.{Names, Read, Damaged, Gap, Replaced, Write, Memory}
 use Rattle.store_follow.specs.declared.follower.Looked.{Looked}
 use Rattle.store_follow.specs.declared.place.Place.{Place}
 use Rattle.store_follow.proofs.Repeated.{committed}
-use Rattle.store_follow.proofs.Listed.{begins, listed_shown, none_later}
+use Rattle.store_follow.proofs.Runs.{writes_none}
+use Rattle.store_follow.proofs.Listed.{begins, listed_shown, none_later, none_shown, not_in_none, shown_or_not}
 
 pub ok_more : {T E : Type 0} (r : Result T E) (P Q : T → Type 0) → ((x : T) → P x → Q x) → IfOk r P → IfOk r Q
 ok_more (Ok x) P Q more p = more x p
@@ -68,6 +70,7 @@ pub record IsRead (state : State) (chosen place : Place) (read : Result Bool Bat
       → Stops fault file chosen.at place.at before now)
   pub absent : IfErr read (λ fault. journal_shown state chosen.number ≡ None → (place ≡ chosen) × (now ≡ before))
   pub missing : IsErrOf read (Disk Missing) → journal_shown state chosen.number ≡ None
+  pub reaches : (file : List ℕ) → journal_shown state chosen.number ≡ Some file → chosen.at ≤ length file
 
 module _ (state : State) (old : Option Place) (numbers : List ℕ) (chosen place : Place) (before now : Option (List ℕ))
     (are : AreShown state (2 ^ 64 - 1) numbers) (first : IsBeginning old numbers (Some chosen)) where
@@ -79,15 +82,16 @@ module _ (state : State) (old : Option Place) (numbers : List ℕ) (chosen place
       record { later = n; above = some.1; shown = listed_shown state numbers are n some.0 }
 
   looked : (file : List ℕ) (next : Option Place) (more : Bool) → journal_shown state chosen.number ≡ Some file
-      → Writes file chosen.at place.at before now
+      → chosen.at ≤ length file → Writes file chosen.at place.at before now
       → Stays state file chosen.number place.at next more ⊎ GoesOn state file chosen.number place.at next more
       → LookedAt state old next before now more
-  looked file next more shown writes goes = record {
+  looked file next more shown reaches writes goes = record {
     number = chosen.number;
     at = chosen.at;
     begins = here;
     file = file;
     shown = shown;
+    reaches = reaches;
     end = place.at;
     writes = writes;
     committed = λ first behind h. committed file chosen.at place.at first behind writes.bodies h writes.between;
@@ -126,21 +130,17 @@ module _ (state : State) (old : Option Place) (numbers : List ℕ) (chosen place
 
   vain : (next : Option Place) (more : Bool) → place.number ≡ chosen.number
       → ((n : ℕ) → Contains numbers n → n ≤ place.number) → journal_shown state chosen.number ≡ None
-      → (place ≡ chosen) × (now ≡ before) → next ≡ Some place → more ≡ false → LookedInVain state old next before now more
-  vain next more number none absent (same, nothing) is off = of old first
+      → (place ≡ chosen) × (now ≡ before) → next ≡ Some place → more ≡ false
+      → (numbers ≡ []) ⊎ ((m : ℕ) × Contains numbers m × (place.number ≤ m)) → LookedInVain state old next before now more
+  vain next more number none absent (same, nothing) is off low = of old first
     where
       of : (o : Option Place) → IsBeginning o numbers (Some chosen) → LookedInVain state o next before now more
       of None b = absurd ((begins state numbers None chosen are b).1 absent)
       of (Some p) b =
           let one : chosen ≡ p = cc in
-          let at : p.number ≡ chosen.number = ap (λ (x : Place). x.number) (sym one) in
           record {
-            none = λ n k begun.
-                let n_is : n ≡ chosen.number = begun.0 ∙ at in (
-                  subst (λ (m : ℕ). journal_shown state m ≡ None) (sym n_is) absent,
-                  subst (λ (m : ℕ). NoneShownAbove state m) (number ∙ sym n_is)
-                      (none_later state numbers are place.number none),
-                );
+            none = none_shown state numbers place.number are none
+                (subst (λ (m : ℕ). journal_shown state m ≡ None) (sym number) absent) low;
             place = is ∙ ap (λ (x : Place). Some x) (same ∙ one);
             nothing = nothing;
             over = off;
@@ -187,23 +187,25 @@ module _ (state : State) (old : Option Place) (numbers : List ℕ) (chosen place
       (result : Result Looked FollowFault) → IsRead state chosen place read before now
       → IfSome later (λ n. Contains numbers n × (place.number < n))
       → IfNone later ((n : ℕ) → Contains numbers n → n ≤ place.number) → ComesTo place read later next result
+      → ((l : Looked) → result ≡ Ok l → l.more ≡ false
+      → (numbers ≡ []) ⊎ ((m : ℕ) × Contains numbers m × (place.number ≤ m)))
       → IfOk result (λ l. Looks state old next before now l.more)
-  ok_clause (Ok ended) later next result r some none (to, one, is, told, turn) =
+  ok_clause (Ok ended) later next result r some none (to, one, is, told, turn) low =
       let file = r.there.0 in
       let shown = r.there.1 in
       at_ok result one (λ l. Looks state old next before now l.more) told
-      (inl (looked file next one.more shown (r.writes file shown)
+      (inl (looked file next one.more shown (r.reaches file shown) (r.writes file shown)
       (turned ended later to one.more next file r.number some none (λ e. r.over e file shown) is turn)))
-  ok_clause (Err (Disk Missing)) None next result r some none (one, is, told, off) =
+  ok_clause (Err (Disk Missing)) None next result r some none (one, is, told, off) low =
       at_ok result one (λ l. Looks state old next before now l.more) told
-      (inr (vain next one.more r.number none (r.missing refl) (r.absent (r.missing refl)) is off))
-  ok_clause (Err (Disk Missing)) (Some n) next result r some none (at, told) = not_ok result _ _ told
-  ok_clause (Err (Disk Exists)) later next result r some none (fault, is, told, as_told) = not_ok result _ _ told
-  ok_clause (Err (Disk Full)) later next result r some none (fault, is, told, as_told) = not_ok result _ _ told
-  ok_clause (Err (Disk Failed)) later next result r some none (fault, is, told, as_told) = not_ok result _ _ told
-  ok_clause (Err (Disk Disk_memory)) later next result r some none (fault, is, told, as_told) = not_ok result _ _ told
-  ok_clause (Err No_batch) later next result r some none (fault, is, told, as_told) = not_ok result _ _ told
-  ok_clause (Err Not_written) later next result r some none (fault, is, told, as_told) = not_ok result _ _ told
+      (inr (vain next one.more r.number none (r.missing refl) (r.absent (r.missing refl)) is off (low one told off)))
+  ok_clause (Err (Disk Missing)) (Some n) next result r some none (at, told) low = not_ok result _ _ told
+  ok_clause (Err (Disk Exists)) later next result r some none (fault, is, told, as_told) low = not_ok result _ _ told
+  ok_clause (Err (Disk Full)) later next result r some none (fault, is, told, as_told) low = not_ok result _ _ told
+  ok_clause (Err (Disk Failed)) later next result r some none (fault, is, told, as_told) low = not_ok result _ _ told
+  ok_clause (Err (Disk Disk_memory)) later next result r some none (fault, is, told, as_told) low = not_ok result _ _ told
+  ok_clause (Err No_batch) later next result r some none (fault, is, told, as_told) low = not_ok result _ _ told
+  ok_clause (Err Not_written) later next result r some none (fault, is, told, as_told) low = not_ok result _ _ told
 
   -- and one that is
   pub err_clause : (read : Result Bool BatchFault) (later : Option ℕ) (next : Option Place)
@@ -233,6 +235,78 @@ module _ (state : State) (old : Option Place) (numbers : List ℕ) (chosen place
   err_clause (Err Not_written) later next result r some (fault, is, told, as_told) =
       at_fault result Write (λ f. Fails f state old next before now) (told ∙ ap (λ (f : FollowFault). Err f) as_told)
       (wrote_part next r.stops r.number is)
+
+  -- and one of which all journals that are listed are before the place
+  above_all : (new : Option Place) → IsRead state chosen place (Err (Disk Missing)) before now → new ≡ None
+      → ((m : ℕ) → Contains numbers m → m < place.number) → (n : ℕ) × Contains numbers n
+      → FoundReplaced state old new place.number before now
+  above_all new r is below some =
+      let number = r.number in
+      let gone = subst (λ (k : ℕ). journal_shown state k ≡ None) (sym number) (r.missing refl) in
+      record {
+        at = chosen.at;
+        begins = subst (λ (k : ℕ). BeginsAt state old k chosen.at) (sym number) here;
+        is_other = inr (record {
+          none = gone;
+          none_above = λ n above small. shown_or_not state n (λ shown.
+              let least = below n ((are.are n).1 (omega (arith, small), shown)) in omega (arith, least, above));
+          earlier = some.0;
+          below = below some.0 some.1;
+          shown = listed_shown state numbers are some.0 some.1;
+        });
+        place = is;
+        nothing = (r.absent (r.missing refl)).1;
+      }
+
+  pub gone_clause : (read : Result Bool BatchFault) (later : Option ℕ) (next new : Option Place)
+      (result : Result Looked FollowFault) (l : Looked) → IsRead state chosen place read before now
+      → ComesTo place read later next result → result ≡ Ok l → new ≡ None → place.number < 2 ^ 64
+      → ((m : ℕ) → Contains numbers m → m < place.number) → (n : ℕ) × Contains numbers n
+      → FoundReplaced state old new place.number before now
+  gone_clause (Ok ended) later next new result l r comes ok is small below some =
+      let shown : journal_shown state chosen.number ≢ None = λ none. cc (none, r.there.1) in
+      let least = below chosen.number ((are.are chosen.number).1 (omega (arith, small, r.number), shown)) in
+      absurd (omega (arith, least, r.number))
+  gone_clause (Err (Disk Missing)) later next new result l r comes ok is small below some = above_all new r is below some
+  gone_clause (Err (Disk Exists)) later next new result l r (fault, at, told, as_told) ok is small below some = absurd (cc (told, ok))
+  gone_clause (Err (Disk Full)) later next new result l r (fault, at, told, as_told) ok is small below some = absurd (cc (told, ok))
+  gone_clause (Err (Disk Failed)) later next new result l r (fault, at, told, as_told) ok is small below some = absurd (cc (told, ok))
+  gone_clause (Err (Disk Disk_memory)) later next new result l r (fault, at, told, as_told) ok is small below some = absurd (cc (told, ok))
+  gone_clause (Err No_batch) later next new result l r (fault, at, told, as_told) ok is small below some = absurd (cc (told, ok))
+  gone_clause (Err Not_written) later next new result l r (fault, at, told, as_told) ok is small below some = absurd (cc (told, ok))
+
+  -- and one whose journal ends before the place
+  pub shorter_clause : (new : Option Place) (file : List ℕ) → journal_shown state chosen.number ≡ Some file
+      → length file < chosen.at → new ≡ None → FoundReplaced state old new chosen.number before before
+  shorter_clause new file shown ends is = record {
+    at = chosen.at;
+    begins = here;
+    is_other = inl (record { file = file; shown = shown; ends = ends });
+    place = is;
+    nothing = refl;
+  }
+
+  -- and one that could not tell where the journal ends
+  pub unread_clause : (fault : DiskFault) (told : FollowFault) → IsToldAs chosen (Disk fault) told
+      → Fails told state old (Some chosen) before before
+  unread_clause fault told is = of fault is
+    where
+      nothing : WroteBefore state old (Some chosen) before before
+      nothing = record {
+        number = chosen.number;
+        at = chosen.at;
+        begins = here;
+        end = chosen.at;
+        place = (refl, refl);
+        writes = λ file shown. writes_none file chosen.at before;
+      }
+
+      of : (f : DiskFault) → IsToldAs chosen (Disk f) told → Fails told state old (Some chosen) before before
+      of Missing is = subst (λ (t : FollowFault). Fails t state old (Some chosen) before before) (sym is) nothing
+      of Exists is = subst (λ (t : FollowFault). Fails t state old (Some chosen) before before) (sym is) nothing
+      of Full is = subst (λ (t : FollowFault). Fails t state old (Some chosen) before before) (sym is) nothing
+      of Failed is = subst (λ (t : FollowFault). Fails t state old (Some chosen) before before) (sym is) nothing
+      of Disk_memory is = subst (λ (t : FollowFault). Fails t state old (Some chosen) before before) (sym is) (inr nothing)
 
 -- ---- from the calls of a look
 
@@ -265,10 +339,10 @@ module _ (state later : State) (name : List ℕ) (number : ℕ) (same : IsUnchan
   entry_is : later.entries name ≡ state.entries (journal_name number)
   entry_is = same.entries name ∙ ap (λ (n : List ℕ). state.entries n) named
 
-  shown_then : (file : List ℕ) → journal_shown state number ≡ Some file → shown_now (later.entries name) ≡ Some file
+  pub shown_then : (file : List ℕ) → journal_shown state number ≡ Some file → shown_now (later.entries name) ≡ Some file
   shown_then file shown = ap shown_now entry_is ∙ shown
 
-  shown_before : (file : Option (List ℕ)) → shown_now (later.entries name) ≡ file → journal_shown state number ≡ file
+  pub shown_before : (file : Option (List ℕ)) → shown_now (later.entries name) ≡ file → journal_shown state number ≡ file
   shown_before file shown = ap shown_now (sym entry_is) ∙ shown
 
   file_before : IsSome (later.entries name).now → (file : List ℕ) × (journal_shown state number ≡ Some file)
@@ -286,9 +360,10 @@ pub is_read : (tells : Type 0) (state later : State) (name : List ℕ) (chosen p
     → IfOk read (λ ended. tells → IsSound later → IsSome (later.entries name).now)
     → IfErr read (λ fault. tells → IsSound later → IsNone (later.entries name).now → (place ≡ chosen) × (now ≡ before))
     → place.number ≡ chosen.number → (tells → IsErrOf read (Disk Missing) → IsNone (later.entries name).now)
+    → ((file : List ℕ) → journal_shown state chosen.number ≡ Some file → chosen.at ≤ length file)
     → IsRead state chosen place read before now
 is_read tells state later name chosen place read before now told same named sound writes over stops there absent number
-    missing = record {
+    missing reaches = record {
       number = number;
       writes = ok_more read _ _ (λ ended h file shown. h told sound file
           (shown_then state later name chosen.number same named file shown)) writes;
@@ -301,6 +376,7 @@ is_read tells state later name chosen place read before now told same named soun
           (ap shown_now (entry_is state later name chosen.number same named) ∙ none))) absent;
       missing = λ is. shown_before state later name chosen.number same named None
           (not_shown (later.entries name) (missing told is));
+      reaches = reaches;
     }
 
 -- no journal is listed
@@ -309,14 +385,11 @@ pub none_listed : (state : State) (old : Option Place) (numbers : List ℕ) (tak
 none_listed state (Some place) numbers taken are is = absurd (cc is)
 none_listed state None (number ∷ numbers) taken are (place, is, number_is, at_is) = absurd (cc is)
 none_listed state None [] taken are is = inr (record {
-  none = λ number at begun. absurd (not_in number ((are.are number).1 (omega (arith, begun.0), begun.1)));
+  none = λ n small. shown_or_not state n (λ shown. not_in_none n ((are.are n).1 (omega (arith, small), shown)));
   place = refl;
   nothing = refl;
   over = refl;
 })
-  where
-    not_in : (n : ℕ) → Contains [] n → ⊥
-    not_in n (k, below, same) = omega (arith, below)
 
 pub nothing_written : (fault : FollowFault) (state : State) (old : Option Place) (taken : Option (List ℕ))
     → IsListingFault fault → Fails fault state old old taken taken
@@ -324,6 +397,7 @@ nothing_written (Names fault) state old taken is = record { place = refl; nothin
 nothing_written (Read number fault) state old taken is = absurd is
 nothing_written (Damaged number at) state old taken is = absurd is
 nothing_written (Gap number) state old taken is = absurd is
+nothing_written (Replaced number) state old taken is = absurd is
 nothing_written Write state old taken is = absurd is
 nothing_written Memory state old taken is = inl (record { place = refl; nothing = refl })
 

@@ -1,5 +1,5 @@
 -- Octets of a file from an offset on.
-use Rattle.std.proofs.Common.{◌≡◌, ℕ, ◌+◌, ◌<◌, ◌≤◌, List, ◌++◌, Option, None, Some, length, take, drop}
+use Rattle.std.proofs.Common.{◌≡◌, ℕ, ◌+◌, ◌-◌, ◌<◌, ◌≤◌, List, ◌++◌, Option, None, Some, length, take, drop}
 use Rattle.std.proofs.Common.{refl, sym, ap, subst, ◌∙◌, arith, length-append}
 use Rattle.std.proofs.Math.Seq.{take-add}
 use Rattle.std.proofs.lemmas.List.{drop-drop, length-drop, length-take, take_all}
@@ -90,3 +90,27 @@ shown_by a b name file same shown = ap shown_now (same.entries name) ∙ shown
 pub not_both : {X : Type 0} (found : Option X) → IsSome found → IsNone found → ⊥
 not_both None some none = absurd (cc some)
 not_both (Some x) some none = absurd (cc none)
+
+-- whether one octet is there tells whether a file reaches to behind it
+pub ends_before : (file octets : List ℕ) (at : ℕ) → 0 < at → octets ≡ take 1 (drop (at - 1) file) → length octets ≡ 0
+    → length file < at
+ends_before file octets at some is none =
+    omega (
+      arith,
+      some,
+      none,
+      ap (λ (l : List ℕ). length l) is,
+      length-take 1 (drop (at - 1) file),
+      length-drop (at - 1) file,
+    )
+
+pub reaches_to : (file octets : List ℕ) (at : ℕ) → octets ≡ take 1 (drop (at - 1) file) → 0 < length octets
+    → at ≤ length file
+reaches_to file octets at is some =
+    omega (
+      arith,
+      some,
+      ap (λ (l : List ℕ). length l) is,
+      length-take 1 (drop (at - 1) file),
+      length-drop (at - 1) file,
+    )

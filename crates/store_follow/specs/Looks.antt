@@ -1,5 +1,5 @@
 -- What a look at the journals of a store comes to.
-use Rattle.std.specs.Prelude.{◌≡◌, ◌≢◌, ◌⊎◌, ℕ, ◌+◌, ◌<◌, ◌^◌, Bool, true, false, List, [], ◌∷◌, ◌++◌, drop}
+use Rattle.std.specs.Prelude.{◌≡◌, ◌≢◌, ◌⊎◌, ℕ, ◌+◌, ◌<◌, ◌≤◌, ◌^◌, Bool, true, false, List, [], ◌∷◌, ◌++◌, drop, length}
 use Rattle.std.specs.Prelude.{Option, Some, None, Result, Ok, Err}
 use Rattle.disk.specs.States.{State}
 use Rattle.disk.specs.declared.fault.DiskFault.TheVariants.{Missing, Exists, Full, Failed, Memory as Disk_memory}
@@ -11,7 +11,7 @@ use Rattle.store_follow.specs.Laws.{IsBehind}
 use Rattle.store_follow.specs.declared.fault.BatchFault.{BatchFault}
 use Rattle.store_follow.specs.declared.fault.BatchFault.TheVariants.{Disk, Damaged as No_batch, Write as Not_written}
 use Rattle.store_follow.specs.declared.fault.FollowFault.{FollowFault}
-use Rattle.store_follow.specs.declared.fault.FollowFault.TheVariants.{Names, Read, Damaged, Gap, Write, Memory}
+use Rattle.store_follow.specs.declared.fault.FollowFault.TheVariants.{Names, Read, Damaged, Gap, Replaced, Write, Memory}
 use Rattle.store_follow.specs.declared.follower.Follower.{Follower}
 use Rattle.store_follow.specs.declared.follower.Looked.{Looked}
 use Rattle.store_follow.specs.declared.place.Place.{Place}
@@ -117,15 +117,15 @@ pub record LookedAt (state : State) (old new : Option Place) (before now : Optio
   pub begins : BeginsAt state old number at
   pub file : List ℕ
   pub shown : journal_shown state number ≡ Some file
+  pub reaches : at ≤ length file
   pub end : ℕ
   pub writes : Writes file at end before now
   pub committed : AreNext file at end writes.bodies
   pub next : Stays state file number end new more ⊎ GoesOn state file number end new more
 
--- a look that found none: no journal is shown, or neither that of the place nor a later one
+-- a look that found none: no journal is shown
 pub record LookedInVain (state : State) (old new : Option Place) (before now : Option (List ℕ)) (more : Bool) : Type 0 where
-  pub none : (number at : ℕ) → BeginsAt state old number at
-      → (journal_shown state number ≡ None) × NoneShownAbove state number
+  pub none : ShowsNoJournal state
   pub place : new ≡ old
   pub nothing : now ≡ before
   pub over : more ≡ false
@@ -165,12 +165,36 @@ pub record FoundGap (state : State) (old new : Option Place) (gone : ℕ) (befor
   pub place : IsAtPlace new later.later 0
   pub nothing : now ≡ before
 
+-- a journal is shown that ends before an offset
+pub record IsShorter (state : State) (number at : ℕ) : Type 0 where
+  pub file : List ℕ
+  pub shown : journal_shown state number ≡ Some file
+  pub ends : length file < at
+
+-- neither a journal nor a later one is shown, but an earlier one is
+pub record IsAboveAll (state : State) (number : ℕ) : Type 0 where
+  pub none : journal_shown state number ≡ None
+  pub none_above : NoneShownAbove state number
+  pub earlier : ℕ
+  pub below : earlier < number
+  pub shown : journal_shown state earlier ≢ None
+
+-- the journal of the place is another one, or gone back behind; nothing was written, and the follower begins again with the
+-- first batch of the oldest journal that is shown
+pub record FoundReplaced (state : State) (old new : Option Place) (gone : ℕ) (before now : Option (List ℕ)) : Type 0 where
+  pub at : ℕ
+  pub begins : BeginsAt state old gone at
+  pub is_other : IsShorter state gone at ⊎ IsAboveAll state gone
+  pub place : new ≡ None
+  pub nothing : now ≡ before
+
 -- a fault of listing the journals
 abbrev pub IsListingFault : FollowFault → Type 0
 IsListingFault (Names fault) = Unit {0}
 IsListingFault (Read number fault) = ⊥
 IsListingFault (Damaged number at) = ⊥
 IsListingFault (Gap number) = ⊥
+IsListingFault (Replaced number) = ⊥
 IsListingFault Write = ⊥
 IsListingFault Memory = Unit {0}
 
@@ -180,5 +204,6 @@ Fails (Names fault) state old new before now = WroteNothing old new before now
 Fails (Read number fault) state old new before now = WroteBefore state old new before now
 Fails (Damaged number at) state old new before now = WroteBefore state old new before now
 Fails (Gap number) state old new before now = FoundGap state old new number before now
+Fails (Replaced number) state old new before now = FoundReplaced state old new number before now
 Fails Write state old new before now = WrotePart state old new before now
 Fails Memory state old new before now = WroteNothing old new before now ⊎ WroteBefore state old new before now

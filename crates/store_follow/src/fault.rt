@@ -21,6 +21,10 @@ pub enum FollowFault {
     /// segments by now.
     #[error("journal.{number}: gone before all of it was read")]
     Gap { number: u64 },
+    /// The journal with this number is gone, and only earlier ones are there; or it is shorter than what was
+    /// read of it, so that it is another one. All journals that are there are read from their start.
+    #[error("journal.{number}: replaced")]
+    Replaced { number: u64 },
     /// The output failed.
     #[error("the writer failed")]
     Write,

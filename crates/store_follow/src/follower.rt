@@ -8,9 +8,10 @@ ghost use Rattle.store_follow.specs.Looks.{Looks, place_of};
 
 use crate::fault::{BatchFault, FollowFault};
 use crate::following::{end_of, follow_batches};
-use crate::listing::{first, last, later, list};
+use crate::listing::{are_all_below, first, last, later, list};
 use crate::names::name_of_journal;
 use crate::place::Place;
+use crate::reading::is_shorter;
 use disk::{Disk, DiskFault};
 use octet_devices::Output;
 use std::alloc::Global;
@@ -139,16 +140,27 @@ impl Follower {
         }
     }
 
+    // Goes back to before all journals, since that of the place is another one or gone. The fault that tells it.
+    fn begins_anew(&mut self, number: u64) -> FollowFault
+        ensures place { place_of self.new ≡ None }
+        ensures fault { result ≡ FollowFault.Replaced number }
+    {
+        self.place = None;
+        FollowFault::Replaced { number }
+    }
+
     /// Looks at the journals, and writes the entries of the batches that were committed since the last
     /// look, in their order: at most `BATCHES_MAX` of them, and none behind `OCTETS_MAX` octets, and only
     /// those of one journal. It changes nothing in the folder. The names are listed first: a journal before
     /// another one that is there then has had its last batch.
     ///
     /// # Errors
-    /// `Names` or `Read` with the disk's fault, `Damaged`, `Gap`, `Write` or `Memory`. What was written
+    /// `Names` or `Read` with the disk's fault, `Damaged`, `Gap`, `Replaced`, `Write` or `Memory`. What was written
     /// then are the entries of whole batches; the follower is behind them, and the next look goes on there.
     /// Only at `Write` a part of the next batch's entries may have been written too, which the next look
     /// writes again, all of them. At `Gap` the follower is at the start of the first later journal.
+    /// At `Replaced`, which comes where the journal of the place is shorter than that, or gone while earlier ones
+    /// are there and no later one, nothing was written, and the next look begins with the first journal.
     pub fn look<D: Disk, W: Output>(
         &mut self,
         alloc: Global,
@@ -169,8 +181,18 @@ impl Follower {
             return Ok(Looked { more: false });
         };
         let name = name_of_journal(alloc, place.number)?;
+        self.place = Some(place);
+        match is_shorter(alloc, disk, &name, place.at) {
+            Ok(false) => {}
+            Ok(true) => return Err(self.begins_anew(place.number)),
+            Err(fault) => return Err(fault_at(&place, BatchFault::Disk(fault))),
+        }
         let read = follow_batches(alloc, disk, output, &name, &mut place);
         let later = later(&numbers, place.number);
-        self.came_to(place, read, later)
+        let looked = self.came_to(place, read, later)?;
+        if !looked.more && are_all_below(&numbers, place.number) {
+            return Err(self.begins_anew(place.number));
+        }
+        Ok(looked)
     }
 }

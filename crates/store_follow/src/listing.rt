@@ -1,5 +1,6 @@
 //! Which journals a folder has.
 ghost use Rattle.std.specs.Prelude.{◌≡◌, ◌<◌, ◌≤◌, ◌-◌, ◌^◌, [], Contains, IfErr, IfNone, IfOk, IfSome, ℕ};
+ghost use Rattle.std.specs.Prelude.{◌⊎◌, false, true};
 ghost use Rattle.std.specs.List.Sorted.{IsStrictlyIncreasing};
 ghost use Rattle.disk.specs.Calls.{IsUnchanged};
 ghost use Rattle.journal.specs.Journals.{IsSound};
@@ -62,4 +63,21 @@ pub(crate) fn later(numbers: &[u64], number: u64) -> Option<u64>
         }
     }
     None
+}
+
+/// Whether there are numbers, and all of them are below one.
+pub(crate) fn are_all_below(numbers: &[u64], number: u64) -> bool
+    ensures below { result ≡ true → IsStrictlyIncreasing numbers.now → (m : ℕ) → Contains numbers.now m → m < number }
+    ensures some { result ≡ true → (n : ℕ) × Contains numbers.now n }
+    ensures small { result ≡ true → number < 2 ^ 64 }
+    ensures otherwise { result ≡ false → (numbers.now ≡ [])
+        ⊎ ((m : ℕ) × Contains numbers.now m × (number ≤ m)) }
+{
+    let Some(newest) = last(numbers) else {
+        return false;
+    };
+    if newest >= number {
+        return false;
+    }
+    true
 }

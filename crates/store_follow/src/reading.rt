@@ -1,5 +1,6 @@
 //! Batches are read, one at a time.
 ghost use Rattle.std.specs.Prelude.{◌≡◌, ◌≢◌, ◌+◌, ◌^◌, ◌<◌, ◌≤◌, drop, take, List, ℕ, length};
+ghost use Rattle.std.specs.Prelude.{false, true};
 ghost use Rattle.std.specs.Prelude.{IfErr, IfNone, IfOk, IfSome, IsErrOf, IsNone, IsSome, Some};
 ghost use Rattle.disk.specs.Calls.{IsUnchanged};
 ghost use Rattle.disk.specs.Memory.{shown_now};
@@ -16,6 +17,9 @@ pub const BATCH_MAX: usize = 1 << 30;
 
 // the most octets that are asked for in a call
 const PIECE: usize = 16_384;
+
+// no offset that is read is behind this one
+const AT_MAX: u64 = 1 << 62;
 
 // what opens a batch
 const OPEN: u8 = 1;
@@ -57,6 +61,38 @@ fn read_at<D: Disk>(
         octets.extend_from_slice(&piece[..n])?;
     }
     Ok(octets)
+}
+
+/// Whether a file ends before an offset. One that is not there does not.
+///
+/// # Errors
+/// The disk's fault; `Failed` too for an offset behind those that a file has.
+pub(crate) fn is_shorter<D: Disk>(
+    alloc: Global,
+    disk: &mut D,
+    name: &FileName,
+    at: u64,
+) -> Result<bool, DiskFault>
+    ensures shorter { IfOk result (λ shorter. shorter ≡ true → D.tells disk.new → IsSound (D.state disk.old)
+        → (file : List ℕ) × (shown_now ((D.state disk.old).entries name.now) ≡ Some file)
+        × (length file < at)) }
+    ensures reaches { IfOk result (λ shorter. shorter ≡ false → D.tells disk.new → IsSound (D.state disk.old)
+        → (file : List ℕ) → shown_now ((D.state disk.old).entries name.now) ≡ Some file
+        → at ≤ length file) }
+    ensures same { D.tells disk.new → IsUnchanged (D.state disk.old) (D.state disk.new) }
+    ensures told { D.tells disk.new → D.tells disk.old }
+{
+    if at == 0 {
+        return Ok(false);
+    }
+    if at > AT_MAX {
+        return Err(DiskFault::Failed);
+    }
+    match read_at(alloc, disk, name, at - 1, 1) {
+        Ok(octets) => Ok(octets.is_empty()),
+        Err(DiskFault::Missing) => Ok(false),
+        Err(fault) => Err(fault),
+    }
 }
 
 // How many octets a batch has of which these are the first ones. None if it is not open. `Damaged` if

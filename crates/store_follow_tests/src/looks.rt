@@ -161,3 +161,78 @@ fn batches_of_older_programs_are_written(rt: HostRuntime) -> Result<(), Fail> {
         &[A, B],
     )
 }
+
+// What a look answers that finds a journal replaced.
+const fn replaced(number: u64) -> Result<bool, FollowFault> {
+    Err(FollowFault::Replaced { number })
+}
+
+#[test]
+fn earlier_journals_in_the_place_of_a_journal_are_begun(rt: HostRuntime) -> Result<(), Fail> {
+    let alloc = rt.alloc();
+    let mut disk = MemoryDisk::new(alloc);
+    put(alloc, &mut disk, b"journal.7", &batches(alloc, &[A])?)?;
+    let mut follower = Follower::from_start();
+    looks(alloc, &mut follower, &mut disk, Ok(false), &[A])?;
+    remove(alloc, &mut disk, b"journal.7")?;
+    looks(alloc, &mut follower, &mut disk, Ok(false), &[])?;
+    put(alloc, &mut disk, b"journal.2", &batches(alloc, &[C])?)?;
+    put(alloc, &mut disk, b"journal.1", &batches(alloc, &[B])?)?;
+    looks(alloc, &mut follower, &mut disk, replaced(7), &[])?;
+    looks(alloc, &mut follower, &mut disk, Ok(true), &[B])?;
+    looks(alloc, &mut follower, &mut disk, Ok(false), &[C])?;
+    looks(alloc, &mut follower, &mut disk, Ok(false), &[])
+}
+
+#[test]
+fn earlier_journals_beside_a_journal_are_not_begun(rt: HostRuntime) -> Result<(), Fail> {
+    let alloc = rt.alloc();
+    let mut disk = stored(alloc, &[A])?;
+    put(alloc, &mut disk, b"journal.2", &batches(alloc, &[B])?)?;
+    let mut follower = Follower::from_now(alloc, &mut disk)?;
+    looks(alloc, &mut follower, &mut disk, Ok(false), &[])?;
+    remove(alloc, &mut disk, b"journal.2")?;
+    put(alloc, &mut disk, b"journal.3", &batches(alloc, &[C])?)?;
+    let gap = Err(FollowFault::Gap { number: 2 });
+    looks(alloc, &mut follower, &mut disk, gap, &[])?;
+    looks(alloc, &mut follower, &mut disk, Ok(false), &[C])
+}
+
+#[test]
+fn a_journal_that_is_shorter_is_begun_anew(rt: HostRuntime) -> Result<(), Fail> {
+    let alloc = rt.alloc();
+    let mut disk = stored(alloc, &[A, B])?;
+    let mut follower = Follower::from_start();
+    looks(alloc, &mut follower, &mut disk, Ok(false), &[A, B])?;
+    put(alloc, &mut disk, b"journal.1", &batches(alloc, &[C])?)?;
+    looks(alloc, &mut follower, &mut disk, replaced(1), &[])?;
+    looks(alloc, &mut follower, &mut disk, Ok(false), &[C])?;
+    put(alloc, &mut disk, b"journal.1", &batches(alloc, &[C, A])?)?;
+    looks(alloc, &mut follower, &mut disk, Ok(false), &[A])
+}
+
+#[test]
+fn a_journal_without_octets_in_the_place_of_another_is_begun_anew(
+    rt: HostRuntime,
+) -> Result<(), Fail> {
+    let alloc = rt.alloc();
+    let mut disk = stored(alloc, &[A])?;
+    let mut follower = Follower::from_now(alloc, &mut disk)?;
+    put(alloc, &mut disk, b"journal.1", &[])?;
+    looks(alloc, &mut follower, &mut disk, replaced(1), &[])?;
+    looks(alloc, &mut follower, &mut disk, Ok(false), &[])?;
+    put(alloc, &mut disk, b"journal.1", &batches(alloc, &[B])?)?;
+    looks(alloc, &mut follower, &mut disk, Ok(false), &[B])
+}
+
+#[test]
+fn a_journal_that_ends_at_the_place_is_the_same(rt: HostRuntime) -> Result<(), Fail> {
+    let alloc = rt.alloc();
+    let mut disk = MemoryDisk::new(alloc);
+    put(alloc, &mut disk, b"journal.1", &batch(alloc, A)?)?;
+    let mut follower = Follower::from_start();
+    looks(alloc, &mut follower, &mut disk, Ok(false), &[A])?;
+    looks(alloc, &mut follower, &mut disk, Ok(false), &[])?;
+    put(alloc, &mut disk, b"journal.1", &batches(alloc, &[A, B])?)?;
+    looks(alloc, &mut follower, &mut disk, Ok(false), &[B])
+}

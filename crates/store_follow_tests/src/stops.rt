@@ -1,6 +1,6 @@
 //! Devices that fail.
 
-use crate::stores::{A, B, C, joined, looks, stored};
+use crate::stores::{A, B, C, batches, joined, looks, put, stored};
 use disk::{DiskFault, Fuse as DiskFuse};
 use octet_devices::{Fuse, ToWrite};
 use std::alloc::Global;
@@ -66,4 +66,27 @@ fn a_disk_that_fails_is_told(rt: HostRuntime) -> Result<(), Fail> {
     stops(alloc, 3, read, &[A], &[B])?;
     stops(alloc, 4, read, &[A], &[B])?;
     stops(alloc, 5, read, &[A, B], &[])
+}
+
+// Whether a look behind a batch fails so over a disk that fails after so many calls, and the next one goes on.
+fn stops_behind(alloc: Global, calls: u64, fault: FollowFault) -> Result<(), Fail> {
+    let mut disk = stored(alloc, &[A])?;
+    let mut follower = Follower::from_start();
+    looks(alloc, &mut follower, &mut disk, Ok(false), &[A])?;
+    put(alloc, &mut disk, b"journal.1", &batches(alloc, &[A, B])?)?;
+    let mut fuse = DiskFuse::new(disk, calls);
+    looks(alloc, &mut follower, &mut fuse, Err(fault), &[])?;
+    let mut disk = fuse.into_inner();
+    looks(alloc, &mut follower, &mut disk, Ok(false), &[B])
+}
+
+#[test]
+fn a_disk_that_fails_behind_a_batch_is_told(rt: HostRuntime) -> Result<(), Fail> {
+    let alloc = rt.alloc();
+    let read = FollowFault::Read {
+        number: 1,
+        fault: DiskFault::Failed,
+    };
+    stops_behind(alloc, 1, read)?;
+    stops_behind(alloc, 2, read)
 }

@@ -118,7 +118,7 @@ impl<'r, 'c> Run<'r, 'c> {
         }
     }
 
-    // Reports why the journals were not followed, and returns the exit status.
+    // Reports why the journals were not followed, and returns the exit status: `DONE` if they are followed on.
     fn report_fault<N: Output>(&self, fault: FollowFault, diagnostics: &mut N) -> u8 {
         match fault {
             FollowFault::Names { fault } | FollowFault::Read { number: _, fault } => {
@@ -131,6 +131,10 @@ impl<'r, 'c> Run<'r, 'c> {
                 let line = journal_line(self.alloc, number, b" was removed before it was read\n");
                 report_line(line, FAULT, diagnostics)
             }
+            FollowFault::Replaced { number } => {
+                let words = b" was replaced: all journals are read from their start\n";
+                report_line(journal_line(self.alloc, number, words), DONE, diagnostics)
+            }
             // what is found is held in memory
             FollowFault::Write | FollowFault::Memory => {
                 report(diagnostics, b"want of memory\n", NO_MEMORY)
@@ -139,7 +143,7 @@ impl<'r, 'c> Run<'r, 'c> {
     }
 
     // Looks once, and writes what was committed and meets the conditions. Answers whether there is more to be read at
-    // once; or gives the exit status.
+    // once, as where the journals begin again; or gives the exit status.
     fn look<W: Output, N: Output>(
         &mut self,
         output: &mut W,
@@ -163,7 +167,10 @@ impl<'r, 'c> Run<'r, 'c> {
         }
         match looked {
             Ok(looked) => Ok(looked.more),
-            Err(fault) => Err(self.report_fault(fault, diagnostics)),
+            Err(fault) => match self.report_fault(fault, diagnostics) {
+                DONE => Ok(true),
+                status => Err(status),
+            },
         }
     }
 

@@ -16,10 +16,25 @@ struct OpenFile {
     name: FileName,
     file: File,
     id: (u64, u64),
+    // how its name stands to it
+    named: Named,
+}
+
+// What the name of a file that is open stands for.
+#[derive(Clone, Copy, PartialEq, Eq)]
+enum Named {
+    // That file, or none.
+    Same,
+    // Another file. There may be more to be read of the one that is open.
+    Other,
+    // Another file, and the one that is open was read to its end since that was seen.
+    OtherAtEnd,
 }
 
 /// A folder that is read alone: nothing in it is made, changed or locked. A folder that is not there has no files
-/// yet. The file that was read last stays open, so that it can be read to its end once its name is gone.
+/// yet. The file that was read last stays open, so that it can be read to its end once its name is gone or another
+/// file has it. From then on the name stands for a file without octets, as long as it is not read from its start:
+/// what comes in the place of a file does not go on with it.
 #[derive(Drop)]
 pub struct FollowedFolder<'r> {
     rt: &'r HostRuntime,
@@ -91,38 +106,55 @@ impl<'r> FollowedFolder<'r> {
         )
     }
 
-    // Whether the file of a name is open, and still has that name or none has. A server may write a journal anew, under
-    // its old name.
-    fn is_open(&self, name: &FileName, path: &str) -> io::Result<bool> {
+    // What a name stands for, if the file that was read last had it; none if that had another name.
+    fn named(&self, name: &FileName, path: &str) -> io::Result<Option<Named>> {
         let Some(open) = &self.open else {
-            return Ok(false);
+            return Ok(None);
         };
         if open.name.as_octets() != name.as_octets() {
-            return Ok(false);
+            return Ok(None);
         }
         match fs::symlink_metadata(self.rt, path) {
-            Ok(found) => Ok((found.dev(), found.ino()) == open.id),
-            Err(error) if error.kind() == ErrorKind::NotFound => Ok(true),
+            Ok(found) if (found.dev(), found.ino()) == open.id => Ok(Some(Named::Same)),
+            Ok(_) if open.named == Named::Same => Ok(Some(Named::Other)),
+            Ok(_) => Ok(Some(open.named)),
+            Err(error) if error.kind() == ErrorKind::NotFound => Ok(Some(Named::Same)),
             Err(error) => Err(error),
         }
     }
 
-    // Opens the file of a name, unless it is the one that is open.
-    fn open_file(&mut self, name: &FileName) -> io::Result<()>
+    // Opens the file of a name.
+    fn open_file(&mut self, name: &FileName, path: &str) -> io::Result<()>
         ensures stays { self.new.has_failed ≡ self.old.has_failed }
     {
-        let path = self.path.of_file(name)?;
-        if self.is_open(name, path.as_str())? {
-            return Ok(());
-        }
-        let file = open_regular(self.rt, path.as_str(), Access::Read)?.file;
+        let file = open_regular(self.rt, path, Access::Read)?.file;
         let found = file.metadata()?;
         self.open = Some(OpenFile {
             name: name.copy(self.rt.alloc())?,
             file,
             id: (found.dev(), found.ino()),
+            named: Named::Same,
         });
         Ok(())
+    }
+
+    // Reads octets of the file that is open from an offset on, and notes what its name stands for.
+    fn read_open(&mut self, named: Named, at: u64, buf: &mut [u8]) -> io::Result<usize>
+        ensures within { IfOk result (λ n. n ≤ length buf.new) }
+        ensures stays { self.new.has_failed ≡ self.old.has_failed }
+    {
+        let Some(open) = &mut self.open else {
+            return Err(ErrorKind::NotFound.into());
+        };
+        open.named = named;
+        if named == Named::OtherAtEnd {
+            return Ok(0);
+        }
+        let count = read_from(&mut open.file, at, buf)?;
+        if named == Named::Other && count < buf.len() {
+            open.named = Named::OtherAtEnd;
+        }
+        Ok(count)
     }
 
     // Reads octets of the file of a name from an offset on.
@@ -130,10 +162,13 @@ impl<'r> FollowedFolder<'r> {
         ensures within { IfOk result (λ n. n ≤ length buf.new) }
         ensures stays { self.new.has_failed ≡ self.old.has_failed }
     {
-        self.open_file(name)?;
-        match &mut self.open {
-            Some(open) => read_from(&mut open.file, at, buf),
-            None => Err(ErrorKind::NotFound.into()),
+        let path = self.path.of_file(name)?;
+        match self.named(name, path.as_str())? {
+            Some(named) if named != Named::OtherAtEnd || at > 0 => self.read_open(named, at, buf),
+            _ => {
+                self.open_file(name, path.as_str())?;
+                self.read_open(Named::Same, at, buf)
+            }
         }
     }
 }
