@@ -167,7 +167,10 @@ fn a_device_that_fails_ends_the_reading(rt: HostRuntime) -> Result<(), Fail> {
         view.octets = 3;
         let (status, written, told) = read_of(alloc, &mut view, &partial(alloc, None));
         assert_eq!(rt; status, 2);
-        assert!(rt; written.is_empty() && told.ends_with(b" read fault\n"), "{told:?}");
+        assert!(rt;
+            written.is_empty() && told.ends_with(b" read fault\n"),
+            "{told:?}"
+        );
     }
     Ok(())
 }
