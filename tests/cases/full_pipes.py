@@ -382,6 +382,31 @@ def turned(runs):
     runs.results.check("nothing else is left", not (store / "refused.new").exists())
 
 
+def moved(runs):
+    """Where somebody moves or removes the file while a server runs, what is refused then is kept in a new one; a folder in its
+    place is told."""
+    for name, change in {"removed": lambda path: path.unlink(), "moved": lambda path: path.rename(path.with_name("refused.old")),
+                         "replaced": lambda path: (path.unlink(), path.touch())}.items():
+        store = with_refused(runs)
+        path = store / "refused"
+        with runs.until_eof(*any_port("lf"), *SOON, store=store) as server:
+            server.send("lf", b"first\n")
+            until(lambda: path.read_bytes().endswith(b"first"))
+            change(path)
+            server.send("lf", b"second\n")
+            server.end()
+        kept = [words for _, words in refused_file(store)]
+        runs.results.check(f"a file that is {name}: the new one", kept == [b"second"], str(kept))
+    store = with_refused(runs)
+    path = store / "refused"
+    with runs.until_eof(*any_port("lf"), *SOON, store=store) as server:
+        path.unlink()
+        path.mkdir()
+        server.send("lf", b"second\n")
+        told = server.until_told(re.compile(rb"refused: 1 entries not kept: Is a directory.*"))
+        runs.results.check("a folder in its place is told", told, str(server.lines()[-2:]))
+
+
 def full_disk(runs):
     """On a full disk the file has whole entries; those that are not kept are counted, and it goes on with more room."""
     disk = runs.path / "disk"
@@ -446,7 +471,7 @@ def shown(runs):
             runs.results.check(f"serve of {name!r}, whose lock is a folder", (server.status(), server.told()) == (2, right), str(server.told()))
 
 
-TESTS = [unread, read_late, no_reader, in_order, to_a_file, stopped_terminal, silent_terminal, torn, others, damaged, one_bit, blank_end, turned, never_turned, full_disk, shown]
+TESTS = [unread, read_late, no_reader, in_order, to_a_file, stopped_terminal, silent_terminal, torn, others, damaged, one_bit, blank_end, turned, never_turned, moved, full_disk, shown]
 
 
 def full_pipes(program, results):
