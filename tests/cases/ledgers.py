@@ -366,16 +366,26 @@ def is_refused(program, results, path):
 
 def is_broken_beside_a_server(program, results, path):
     """A server goes on where its ledger is damaged or cannot be locked: it tells so once, and lists what came meanwhile once
-    it can."""
-    def intruder(store):
+    it can. Where the ledger was set aside, the next compaction does."""
+    def damage(store):
+        (store / "kept").write_bytes((store / "ledger").read_bytes())
+        (store / "ledger").write_bytes(b"none\n")
+
+    def put_back(store):
+        (store / "ledger").write_bytes((store / "kept").read_bytes())
+        (store / "kept").unlink()
+
+    def lock_out(store):
         (store / "lock.ledger").unlink()
         (store / "lock.ledger").mkdir()
 
-    cases = {"a damaged ledger": (lambda store: (store / "ledger").write_bytes(b"none\n"), lambda store: (store / "ledger").rename(store / "damaged.ledger"),
-                                  b"ledger: damaged at octet 0: new segments are not listed"),
-             "a lock that is a folder": (intruder, lambda store: (store / "lock.ledger").rmdir(),
-                                         b"lock.ledger: Is a directory (os error 21): new segments are not listed")}
-    for name, (breaks, mends, told) in cases.items():
+    def set_aside(store):
+        (store / "kept").unlink()
+        (store / "ledger").rename(store / "damaged.ledger")
+
+    broken = b"ledger: damaged at octet 0: new segments are not listed"
+    for name, breaks, told, mends in ("a ledger that is put back", damage, broken, put_back), ("a ledger that is set aside", damage, broken, set_aside), \
+            ("a lock that is a folder", lock_out, b"lock.ledger: Is a directory (os error 21): new segments are not listed", lambda store: (store / "lock.ledger").rmdir()):
         ledgers = Ledgers(program, results, Path(path) / name)
         ledgers.add(of_day(20, 0, 3))
         breaks(ledgers.store)
@@ -386,7 +396,8 @@ def is_broken_beside_a_server(program, results, path):
             results.same(f"{name}: it is told once", server.lines(), [told])
             mends(ledgers.store)
             send_for_checkpoint(server, name, 3)
-            results.check(f"{name}: it lists again", server.until_told(b"ledger: new segments are listed again"))
+            again = mends is set_aside or server.until_told(b"ledger: new segments are listed again")
+            results.check(f"{name}: it lists again", again, str(server.lines()))
             results.check(f"{name}: it serves", server.process.poll() is None)
         results.same(f"{name}: compact", ledgers.run("compact"), (0, b"", b""))
         ledgers.is_listed(f"{name}: caught up")

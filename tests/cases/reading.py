@@ -248,7 +248,7 @@ def partial(program, results, folder):
         text = archive_text(sorted(held({name: octets for name, octets in found.items() if not line_on(name, octets)})))
         results.same(f"partial, {kind}: as many lines as damaged files", notes.count(b"\n"), len(others))
         for form in FORMS:
-            for given, last in (ALL, None), (ALL, 5), (second.Conditions(host=[b"h"]), None):
+            for given, last in (ALL, None), (ALL, 5), (second.Conditions(host=["h"]), None):
                 words = [*given.words(), *([f"--last={last}"] if last else []), f"--as={form}"]
                 right = written(chosen(text, given, last), form)[1]
                 seen = program.run(["read", path, "--partial", *words])
