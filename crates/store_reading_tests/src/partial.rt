@@ -1,14 +1,13 @@
 //! A store is read without its damaged files.
 
 use crate::views::{View, view_of};
-use archive_sets::{Conditions, InRange, Times};
+use archive_sets::Conditions;
 use disk::MemoryDisk;
 use octet_devices::ToWrite;
 use read_engine::{ReadForm, ReadOptions, read_records};
 use std::alloc::Global;
 use std::test::Fail;
 use store_test_support::calls::{joined, overwrite, put};
-use syslog_value::Instant;
 
 // names of segments: that of B, and that of D; and of a mixed one that is damaged
 const FIRST: &[u8] =
@@ -134,24 +133,6 @@ fn each_damaged_file_is_told_once(rt: HostRuntime) -> Result<(), Fail> {
     let lines = joined(alloc, &[&FIRST_LINE[..], &LATER_LINE[..]].concat(alloc)?)?;
     assert!(rt; told.starts_with(&lines), "{told:?}");
     assert!(rt; told[lines.len()..].starts_with(b"journal.1 "));
-    Ok(())
-}
-
-// a damaged segment of a day that has nothing in the range is not told
-#[test]
-fn a_range_leaves_damaged_days_alone(rt: HostRuntime) -> Result<(), Fail> {
-    let alloc = rt.alloc();
-    let mut disk = stored(alloc)?;
-    overwrite(alloc, &mut disk, FIRST, 5, b'!')?;
-    let mut options = partial(alloc, None);
-    options.conditions.times = Times::Range(InRange {
-        from: Instant::from_micros(1_709_251_200_000_000),
-        to: None,
-        undated: false,
-    });
-    let (status, written, told) = read_of(alloc, &mut view_of(alloc, &mut disk)?, &options);
-    assert_eq!(rt; status, 0);
-    assert!(rt; written.as_slice() == D && told.is_empty(), "{told:?}");
     Ok(())
 }
 
