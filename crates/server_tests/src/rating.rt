@@ -125,7 +125,10 @@ fn expect_held_back(rt: &HostRuntime, listener: usize, frame: &[u8]) -> Result<(
     let _client = connect(rt, &mut source, listener, sent.as_slice())?;
     let mut came = Vec::new(alloc);
     expect(comes_next(&mut source, &mut came)?, "nothing came")?;
-    expect(came.len() == BURST * frame.len(), "not a burst")?;
+    expect(
+        came.len() == BURST.saturating_mul(frame.len()),
+        "not a burst",
+    )?;
     for _piece in 0..sent.len() {
         if came.len() < sent.len() {
             expect(comes_next(&mut source, &mut came)?, "it ended")?;
